@@ -1,0 +1,215 @@
+-- What a run says of the formula's models: for every task with a chunk limit of 1 or more, and of forced and free variables for
+-- runs stopped by their budget too.
+--
+--   run-answer            a run is settled, finds no model, or is stopped
+--   run-forced            a literal marked forced is in all models, and there is one
+--   run-free              a variable marked free has a witness against the run's first model
+--   settled-forced, settled-free     and back, in a settled run
+--   no-model-exactly      20 is answered exactly if there is no model, unless stopped
+--   run-statuses          there is a status for each variable, and it is 0, 1, 2 or 3
+--
+-- Assumes nothing.
+use mathlib.Core.Path.{_≡_, refl, sym, _∙_, ap}
+use mathlib.Core.Logic.{_≢_, _⊎_, inl, inr, _↔_}
+use mathlib.Core.Bool.{Bool, true, false}
+use mathlib.Core.List.{List, [], _∷_, _++_, List·Memᴰ·head}
+use Prim.Native.Nat.{ℕ, zero, suc, _+_, _≤_, _<_, min}
+use native.Mathlib.Omega.{arith}
+use lib.IntN.{ℤ, pos, negsuc}
+use lib.ListN.{length, replicate, length-append, length-replicate}
+use borrow.Author.Tests.{eqb-true, eq-eqb}
+use Rattle.rules.specs.declared.Outcome.{Outcome}
+use Rattle.rules.specs.declared.RunAnswer.{RunAnswer}
+use Rattle.rules.specs.Lists.{In, count}
+use Rattle.rules.specs.Meaning.{Clause, Values, valueAt, indexOf, trueByte, isTrue, LitUpTo, Model}
+use Rattle.rules.specs.Search.{Call, model, no-model, stopped}
+use Rattle.rules.specs.Models.{Extends, NoModel, Forced, Free, Witness, by-model, by-flip, WitnessOf}
+use Rattle.rules.specs.Run.{Task, Row, Progress, statusAt, opens, isOpen, forcedBy, forcedValue, blank, flipped, rowAfter, afterNone, afterStop, Ended, begun, firstCall, chunkCall, run}
+use Rattle.rules.specs.Answer.{isFree, isForced}
+use Rattle.rules.specs.Log.{LogOf}
+use Rattle.rules.proofs.ListLaws.{never}
+use Rattle.rules.proofs.MeaningLaws.{blank-extends, blank-proper}
+use Rattle.rules.proofs.SearchLaws.{NoModelFrom}
+use Rattle.rules.proofs.KnownLaws.{Known, first-model-is}
+use Rattle.rules.proofs.RunTrace.{Reached, first-model, next-model, next-none, Ends, first-none, first-stopped, settled, next-stopped, known, run-ends, first-none-of}
+use Rattle.rules.proofs.LogLaws.{logged, log-begun, stop-log, calls-opens-le, tries-le, LogAt}
+
+-- ---- the models of a run: the first one found is the first in its list
+
+pub models-first : {k : Task} {size : ℕ} {p : Progress} → Reached k size p → (rest : List Values) × (p .models ≡ p .first ∷ rest)
+models-first (first-model m t e) = ([], refl)
+models-first (next-model {p = p} n m t r o e) = let (rest, q) = models-first r in (rest ++ (m ∷ []), ap (λ (ms : List Values). ms ++ (m ∷ [])) q)
+models-first (next-none n t r o e) = models-first r
+
+-- ---- what a progress says
+
+-- the status of a literal's variable says that the literal is forced
+abbrev pub isForcedTo : List ℕ → ℤ → Type 0
+isForcedTo ss l = statusAt ss (indexOf l) ≡ forcedBy (trueByte l)
+
+forcedBy-le : (l : ℤ) → 2 ≤ forcedBy (trueByte l)
+forcedBy-le (pos n) = omega arith
+forcedBy-le (negsuc n) = omega arith
+
+forcedValue-trueByte : (l : ℤ) → forcedValue (forcedBy (trueByte l)) ≡ trueByte l
+forcedValue-trueByte (pos n) = refl
+forcedValue-trueByte (negsuc n) = refl
+
+known-forced : {k : Task} {first : Values} {models : List Values} {ss : List ℕ} → Known k first models ss → (l : ℤ) → isForcedTo ss l → Forced (k .vars) (k .formula) l
+known-forced {k} {first} {models} {ss} w l e =
+    record {
+      some-model = first;
+      is-model = first-model-is w;
+      in-all = λ m x. eq-eqb (valueAt m (indexOf l)) (trueByte l) (w .forced (indexOf l) (rw e (forcedBy-le l)) m x ∙ ap forcedValue e ∙ forcedValue-trueByte l);
+    }
+
+-- a witness shows that models differ
+free-of-witness : {n : ℕ} {F : List Clause} {first : Values} {models : List Values} {i : ℕ} → Model n F first → ((m : Values) → In m models → Model n F m) → Witness n F first models i → Free n F i
+free-of-witness {first = first} x are (by-model m h d) =
+    record { one = m; two = first; one-is = are m h; two-is = x; differ = d }
+free-of-witness {first = first} {i = i} x are (by-flip m h y d) =
+    record { one = flipped m i; two = first; one-is = y; two-is = x; differ = d }
+
+-- a literal in all models, and models that differ on its variable
+forced-not-free : {n : ℕ} {F : List Clause} {l : ℤ} → Forced n F l → Free n F (indexOf l) → ⊥
+forced-not-free {l = l} f d =
+    d .differ (eqb-true _ (trueByte l) (f .in-all (d .one) (d .one-is)) ∙ sym (eqb-true _ (trueByte l) (f .in-all (d .two) (d .two-is))))
+
+-- ---- with no candidate left, every variable is free or forced
+
+no-open : (ss : List ℕ) → opens ss ≡ 0 → (i : ℕ) → statusAt ss i ≢ 0
+no-open [] h i = omega arith
+no-open (zero ∷ ss) h i = absurd (omega arith)
+no-open (suc s ∷ ss) h zero = omega arith
+no-open (suc s ∷ ss) h (suc i) = no-open ss h i
+
+free-or-forced : (s : ℕ) → s ≢ 0 → (s ≡ 1) ⊎ (2 ≤ s)
+free-or-forced zero h = absurd (h refl)
+free-or-forced (suc zero) h = inl refl
+free-or-forced (suc (suc s)) h = inr (omega arith)
+
+-- a status that says a literal's byte is forced to it
+forcedBy-of : (s : ℕ) (l : ℤ) → 2 ≤ s → s ≤ 3 → forcedValue s ≡ trueByte l → s ≡ forcedBy (trueByte l)
+forcedBy-of zero l h k e = absurd (omega arith)
+forcedBy-of (suc zero) l h k e = absurd (omega arith)
+forcedBy-of (suc (suc zero)) (pos n) h k e = refl
+forcedBy-of (suc (suc zero)) (negsuc n) h k e = absurd (omega arith)
+forcedBy-of (suc (suc (suc zero))) (pos n) h k e = absurd (omega arith)
+forcedBy-of (suc (suc (suc zero))) (negsuc n) h k e = refl
+forcedBy-of (suc (suc (suc (suc s)))) l h k e = absurd (omega arith)
+
+module _ {k : Task} {first : Values} {models : List Values} {ss : List ℕ} (w : Known k first models ss) (z : opens ss ≡ 0) where
+  forced-complete : (l : ℤ) → indexOf l < k .vars → Forced (k .vars) (k .formula) l → isForcedTo ss l
+  forced-complete l h f = go (free-or-forced (statusAt ss (indexOf l)) (no-open ss z (indexOf l)))
+    where
+      go : (statusAt ss (indexOf l) ≡ 1) ⊎ (2 ≤ statusAt ss (indexOf l)) → isForcedTo ss l
+      go (inl e) = absurd (forced-not-free f (free-of-witness (first-model-is w) (w .models-are) (w .free (indexOf l) h e)))
+      go (inr q) =
+          forcedBy-of (statusAt ss (indexOf l)) l q (w .small (indexOf l)) (sym (w .forced (indexOf l) q first (first-model-is w)) ∙ eqb-true _ (trueByte l) (f .in-all first (first-model-is w)))
+
+  free-complete : (i : ℕ) → Free (k .vars) (k .formula) i → statusAt ss i ≡ 1
+  free-complete i d = go (free-or-forced (statusAt ss i) (no-open ss z i))
+    where
+      go : (statusAt ss i ≡ 1) ⊎ (2 ≤ statusAt ss i) → statusAt ss i ≡ 1
+      go (inl e) = e
+      go (inr q) = absurd (d .differ (w .forced i q (d .one) (d .one-is) ∙ sym (w .forced i q (d .two) (d .two-is))))
+
+-- ---- the run
+
+indexOf-lt : {n : ℕ} (l : ℤ) → LitUpTo n l → indexOf l < n
+indexOf-lt (pos zero) h = absurd (omega (arith, h .some))
+indexOf-lt (pos (suc n)) h = omega (arith, h .most)
+indexOf-lt (negsuc n) h = omega (arith, h .most)
+
+-- the statuses before there is a model: all open
+blank-open : (n i : ℕ) → i < n → statusAt (replicate n 0) i ≡ 0
+blank-open zero i h = absurd (omega arith)
+blank-open (suc n) zero h = refl
+blank-open (suc n) (suc i) h = blank-open n i (omega arith)
+
+-- what a run has shown when it ends: nothing, if its first call found no model; otherwise what is known at its last progress
+data Shown (k : Task) (p : Progress) : Type 0 where
+  nothing-yet : p .statuses ≡ replicate (k .vars) 0 → Shown k p
+  by-models : Known k (p .first) (p .models) (p .statuses) → (rest : List Values) → p .models ≡ p .first ∷ rest → Shown k p
+
+ends-shown : {k : Task} {e : Ended} → Ends k e → Shown k (e .progress)
+ends-shown (first-none t e) = nothing-yet refl
+ends-shown (first-stopped t e) = nothing-yet refl
+ends-shown (settled r o) = let (rest, q) = models-first r in by-models (known r) rest q
+ends-shown (next-stopped n t r o e) = let (rest, q) = models-first r in by-models (known r) rest q
+
+module _ (k : Task) (limit : 1 ≤ k .limit) where
+  shown : Shown k (run k .progress)
+  shown = ends-shown (run-ends k limit)
+
+  -- a run is settled, finds no model, or is stopped
+  pub run-answer : (run k .answer ≡ RunAnswer.Settled) ⊎ ((run k .answer ≡ RunAnswer.NoModel) ⊎ (run k .answer ≡ RunAnswer.Stopped))
+  run-answer = go (run-ends k limit)
+    where
+      go : {e : Ended} → Ends k e → (e .answer ≡ RunAnswer.Settled) ⊎ ((e .answer ≡ RunAnswer.NoModel) ⊎ (e .answer ≡ RunAnswer.Stopped))
+      go (first-none t e) = inr (inl refl)
+      go (first-stopped t e) = inr (inr refl)
+      go (settled r o) = inl refl
+      go (next-stopped n t r o e) = inr (inr refl)
+
+  -- there is a status for each variable, and it is 0, 1, 2 or 3
+  pub run-statuses : (length (run k .progress .statuses) ≡ k .vars) × ((i : ℕ) → statusAt (run k .progress .statuses) i ≤ 3)
+  run-statuses = go shown
+    where
+      go : {p : Progress} → Shown k p → (length (p .statuses) ≡ k .vars) × ((i : ℕ) → statusAt (p .statuses) i ≤ 3)
+      go (nothing-yet e) = rw e (length-replicate (k .vars) 0, λ i. omega (arith, blank-proper (k .vars) .small i))
+      go (by-models w rest q) = (w .len, w .small)
+
+  -- a literal marked forced is in all models, and there is one: in a stopped run too
+  pub run-forced : (l : ℤ) → LitUpTo (k .vars) l → isForcedTo (run k .progress .statuses) l → Forced (k .vars) (k .formula) l
+  run-forced l h = go shown
+    where
+      go : {p : Progress} → Shown k p → isForcedTo (p .statuses) l → Forced (k .vars) (k .formula) l
+      go (nothing-yet e) f =
+          absurd (omega (arith, rw e at f, blank-open (k .vars) (indexOf l) (indexOf-lt l h), forcedBy-le l))
+      go (by-models w rest q) f = known-forced w l f
+
+  -- a variable marked free has a witness: a model of the run that differs on it from the run's first model, or one that does so
+  -- with this variable alone flipped and is still a model. In a stopped run too
+  pub run-free : (i : ℕ) → i < k .vars → statusAt (run k .progress .statuses) i ≡ 1 → WitnessOf (k .vars) (k .formula) (run k .progress .models) i
+  run-free i h = go shown
+    where
+      go : {p : Progress} → Shown k p → statusAt (p .statuses) i ≡ 1 → WitnessOf (k .vars) (k .formula) (p .models) i
+      go (nothing-yet e) f = absurd (omega (arith, rw e at f, blank-open (k .vars) i h))
+      go {p} (by-models w rest q) f =
+          record { first = p .first; rest = rest; models-are = q; witness = w .free i h f; each = w .models-are }
+
+  -- a settled run has no candidate left
+  settled-known : run k .answer ≡ RunAnswer.Settled → Known k (run k .progress .first) (run k .progress .models) (run k .progress .statuses) × (opens (run k .progress .statuses) ≡ 0)
+  settled-known = go (run-ends k limit)
+    where
+      go : {e : Ended} → Ends k e → e .answer ≡ RunAnswer.Settled → Known k (e .progress .first) (e .progress .models) (e .progress .statuses) × (opens (e .progress .statuses) ≡ 0)
+      go (first-none t e) z = absurd (let y : _≡_ {A = ℕ} 0 1 = cc in omega arith)
+      go (first-stopped t e) z = absurd (let y : _≡_ {A = ℕ} 0 1 = cc in omega arith)
+      go (settled r o) z = (known r, o)
+      go (next-stopped n t r o e) z = absurd (let y : _≡_ {A = ℕ} 0 1 = cc in omega arith)
+
+  -- a settled run marks a literal forced exactly if a model exists and all models contain it
+  pub settled-forced : run k .answer ≡ RunAnswer.Settled → (l : ℤ) → LitUpTo (k .vars) l → isForcedTo (run k .progress .statuses) l ↔ Forced (k .vars) (k .formula) l
+  settled-forced a l h = let (w, z) = settled-known a in (run-forced l h, forced-complete w z l (indexOf-lt l h))
+
+  -- and a variable free exactly if models differ on it
+  pub settled-free : run k .answer ≡ RunAnswer.Settled → (i : ℕ) → i < k .vars → (statusAt (run k .progress .statuses) i ≡ 1) ↔ Free (k .vars) (k .formula) i
+  settled-free a i h = let (w, z) = settled-known a in (λ e. free-of-witness (first-model-is w) (w .models-are) (w .free i h e), free-complete w z i)
+
+  -- unless it is stopped, a run answers "no model" exactly if there is none
+  pub no-model-exactly : run k .answer ≢ RunAnswer.Stopped → (run k .answer ≡ RunAnswer.NoModel) ↔ NoModel (k .vars) (k .formula)
+  no-model-exactly s = (sound (run-ends k limit), complete (run-ends k limit) s)
+    where
+      sound : {e : Ended} → Ends k e → e .answer ≡ RunAnswer.NoModel → NoModel (k .vars) (k .formula)
+      sound (first-none t e) z =
+          record { none = λ m x. first-none-of k t e .none-from m (blank-extends (k .vars) m (x .len)) (x .total) (x .all-true) }
+      sound (first-stopped t e) z = absurd (let y : _≡_ {A = ℕ} 0 1 = cc in omega arith)
+      sound (settled r o) z = absurd (let y : _≡_ {A = ℕ} 0 1 = cc in omega arith)
+      sound (next-stopped n t r o e) z = absurd (let y : _≡_ {A = ℕ} 0 1 = cc in omega arith)
+
+      complete : {e : Ended} → Ends k e → e .answer ≢ RunAnswer.Stopped → NoModel (k .vars) (k .formula) → e .answer ≡ RunAnswer.NoModel
+      complete (first-none t e) z f = refl
+      complete (first-stopped t e) z f = absurd (z refl)
+      complete (settled {p = p} r o) z f = absurd (f .none (p .first) (first-model-is (known r)))
+      complete (next-stopped n t r o e) z f = absurd (z refl)

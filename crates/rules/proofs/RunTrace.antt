@@ -1,0 +1,198 @@
+-- The run, call by call: what progress it can reach, and how it ends. Laws of the run go by induction on `Reached`.
+--
+--   Reached           progress that a run comes to, with the chunk size that is next
+--   Ends              how a run ends
+--
+-- Assumes nothing.
+use mathlib.Core.Path.{_≡_, refl, sym, _∙_, ap}
+use mathlib.Core.Logic.{_≢_, _⊎_, inl, inr}
+use mathlib.Core.Bool.{Bool, true, false, not}
+use mathlib.Core.List.{List, [], _∷_, _++_, map, List·Memᴰ·head, List·Memᴰ·tail, List·Memᴰ·not-nil, List·Memᴰ·append-cases, List·Memᴰ·eq-of-singleton, Memᴰ·append-left, Memᴰ·append-right}
+use Prim.Native.Nat.{ℕ, zero, suc, _+_, _-_, _≤_, _<_, min}
+use native.Mathlib.Omega.{arith}
+use native.Mathlib.Nat.{zero-add}
+use lib.IntN.{ℤ}
+use lib.Dec.{eqb}
+use lib.ListN.{length, getD, set, take, replicate, length-replicate, getD-replicate, length-set, List·getD-eq-default}
+use lib.Seq.{getD-set-same}
+use borrow.Author.Tests.{eqb-true, eqb-false, eq-eqb, ne-eqb}
+use Rattle.rules.specs.declared.RunAnswer.{RunAnswer}
+use Rattle.rules.specs.Lists.{In, any, all}
+use Rattle.rules.specs.Meaning.{Clause, Values, valueAt, indexOf, trueByte, negated, isTrue, hasTrue, satisfies, Total, Model}
+use Rattle.rules.specs.Search.{Call, model, no-model, stopped, callOn}
+use Rattle.rules.specs.Models.{Extends, Witness, by-model, by-flip}
+use Rattle.rules.specs.Run.{Task, Row, Progress, statusAt, opens, literalAt, candidatesFrom, freedFrom, differs, otherByte, flipped, canFlip, compared, flips, filtered, forcedBy, forceFirst, blank, forcedValue, forcedValues, chunkOf, constraint, chunkCall, afterModel, afterNone, afterStop, Ended, endedBy, begun, onCall, onOpen, chunksIn, chunks, onFirst, firstCall, run}
+use Rattle.rules.proofs.ListLaws.{both, never, any-sound, any-complete, and-left}
+use Rattle.rules.proofs.MeaningLaws.{Proper, set-cases, blank-proper, blank-extends, satisfies-append, satisfies-left, satisfies-right}
+use Rattle.rules.proofs.SearchLaws.{Says, LeastModel, NoModelFrom, callOn-says}
+use Rattle.rules.proofs.KnownLaws.{Known, first-model-is, otherByte-valued, known-more, known-filtered, known-none, proper-forcedValues}
+use Rattle.rules.proofs.StatusLaws.{freed-counts, opens-freed-lt, ForcedMore, forceFirst-counts, length-freedFrom, freed-at, candidate-open, literalAt-true, literalAt-negated, length-forceFirst, forceFirst-at, length-forcedValues, forcedValues-at, forcedValue-forcedBy, forcedValue-le}
+
+-- ---- the calls, one after the other
+
+pub data Reached (k : Task) : ℕ → Progress → Type 0 where
+  first-model : (m : Values) (t : ℕ) → firstCall k ≡ model m t → Reached k 1 (afterModel k (begun k m) 0 m t)
+  next-model : {size : ℕ} {p : Progress} (n : ℕ) (m : Values) (t : ℕ) → Reached k size p → opens (p .statuses) ≡ suc n → chunkCall k p (min size (suc n)) ≡ model m t → Reached k 1 (afterModel k p (min size (suc n)) m t)
+  next-none : {size : ℕ} {p : Progress} (n t : ℕ) → Reached k size p → opens (p .statuses) ≡ suc n → chunkCall k p (min size (suc n)) ≡ no-model t → Reached k (min (size + size) (k .limit)) (afterNone p (min size (suc n)) t)
+
+pub data Ends (k : Task) : Ended → Type 0 where
+  first-none : (t : ℕ) → firstCall k ≡ no-model t → Ends k (endedBy RunAnswer.NoModel (afterNone (begun k []) 0 t))
+  first-stopped : (t : ℕ) → firstCall k ≡ stopped t → Ends k (endedBy RunAnswer.Stopped (afterStop (begun k []) 0 t))
+  settled : {size : ℕ} {p : Progress} → Reached k size p → opens (p .statuses) ≡ 0 → Ends k (endedBy RunAnswer.Settled p)
+  next-stopped : {size : ℕ} {p : Progress} (n t : ℕ) → Reached k size p → opens (p .statuses) ≡ suc n → chunkCall k p (min size (suc n)) ≡ stopped t → Ends k (endedBy RunAnswer.Stopped (afterStop p (min size (suc n)) t))
+
+-- ---- what the calls say
+
+first-says : (k : Task) → Says (k .formula) (blank (k .vars)) (firstCall k)
+unfolding firstCall
+first-says k = callOn-says (k .budget) (k .formula) (blank (k .vars)) 0 (blank-proper (k .vars))
+
+chunk-says : (k : Task) (p : Progress) (n : ℕ) → Says (k .formula ++ constraint (chunkOf p n) ∷ []) (forcedValues (p .statuses)) (chunkCall k p n)
+unfolding chunkCall
+chunk-says k p n =
+    callOn-says (k .budget) (k .formula ++ constraint (chunkOf p n) ∷ []) (forcedValues (p .statuses)) (p .tries) (proper-forcedValues (p .statuses))
+
+-- a model that the first call finds, and one that a chunk's call finds
+first-model-of : (k : Task) (m : Values) (t : ℕ) → firstCall k ≡ model m t → LeastModel (k .formula) (blank (k .vars)) m
+first-model-of k m t e = rw e at (first-says k)
+
+pub first-none-of : (k : Task) (t : ℕ) → firstCall k ≡ no-model t → NoModelFrom (k .formula) (blank (k .vars))
+first-none-of k t e = rw e at (first-says k)
+
+chunk-model-of : (k : Task) (p : Progress) (n : ℕ) (m : Values) (t : ℕ) → chunkCall k p n ≡ model m t → LeastModel (k .formula ++ constraint (chunkOf p n) ∷ []) (forcedValues (p .statuses)) m
+chunk-model-of k p n m t e = rw e at (chunk-says k p n)
+
+chunk-none-of : (k : Task) (p : Progress) (n t : ℕ) → chunkCall k p n ≡ no-model t → NoModelFrom (k .formula ++ constraint (chunkOf p n) ∷ []) (forcedValues (p .statuses))
+chunk-none-of k p n t e = rw e at (chunk-says k p n)
+
+pub first-is-model : (k : Task) (m : Values) (t : ℕ) → firstCall k ≡ model m t → Model (k .vars) (k .formula) m
+first-is-model k m t e =
+    let s = first-model-of k m t e in
+    record { len = s .len ∙ length-replicate (k .vars) 0; total = s .total; all-true = s .all-true }
+
+pub chunk-is-model : (k : Task) (p : Progress) (n : ℕ) (m : Values) (t : ℕ) → length (p .statuses) ≡ k .vars → chunkCall k p n ≡ model m t → Model (k .vars) (k .formula) m
+chunk-is-model k p n m t h e =
+    let s = chunk-model-of k p n m t e in
+    record {
+      len = s .len ∙ length-forcedValues (p .statuses) ∙ h;
+      total = s .total;
+      all-true = satisfies-left m (k .formula) (constraint (chunkOf p n) ∷ []) (s .all-true);
+    }
+
+-- ---- what is known at each progress
+
+blank-status : (n i : ℕ) → ((statusAt (replicate n 0) i ≡ 0) × (i < n)) ⊎ ((statusAt (replicate n 0) i ≡ 1) × (n ≤ i))
+blank-status zero i = inr (refl, omega arith)
+blank-status (suc n) zero = inl (refl, omega arith)
+blank-status (suc n) (suc i) =
+    elim (blank-status n i) [ inl p ↦ inl (p .0, omega (arith, p .1)) | inr p ↦ inr (p .0, omega (arith, p .1)) ]
+
+known-begun : (k : Task) (m : Values) → Model (k .vars) (k .formula) m → Known k m (m ∷ []) (replicate (k .vars) 0)
+known-begun k m x =
+    record {
+      first-in = List·Memᴰ·head refl;
+      models-are = λ d h. rw (List·Memᴰ·eq-of-singleton h) x;
+      len = length-replicate (k .vars) 0;
+      small = λ i. le i (blank-status (k .vars) i);
+      forced = λ i h. absurd (le-one i (blank-status (k .vars) i) h);
+      free = λ i h e. absurd (not-free i h e (blank-status (k .vars) i));
+    }
+  where
+    Cases : ℕ → Type 0
+    Cases i = ((statusAt (replicate (k .vars) 0) i ≡ 0) × (i < k .vars)) ⊎ ((statusAt (replicate (k .vars) 0) i ≡ 1) × (k .vars ≤ i))
+
+    le : (i : ℕ) → Cases i → statusAt (replicate (k .vars) 0) i ≤ 3
+    le i (inl c) = omega (arith, c .0)
+    le i (inr c) = omega (arith, c .0)
+
+    le-one : (i : ℕ) → Cases i → 2 ≤ statusAt (replicate (k .vars) 0) i → ⊥
+    le-one i (inl c) h = omega (arith, c .0)
+    le-one i (inr c) h = omega (arith, c .0)
+
+    not-free : (i : ℕ) → i < k .vars → statusAt (replicate (k .vars) 0) i ≡ 1 → Cases i → ⊥
+    not-free i h e (inl c) = omega (arith, c .0)
+    not-free i h e (inr c) = omega (arith, c .1)
+
+pub known : {k : Task} {size : ℕ} {p : Progress} → Reached k size p → Known k (p .first) (p .models) (p .statuses)
+known {k} (first-model m t e) =
+    let x = first-is-model k m t e in known-filtered m x (List·Memᴰ·head refl) (known-begun k m x)
+known {k} (next-model {size = size} {p = p} n m t r o e) =
+    let w = known r in
+    let x = chunk-is-model k p (min size (suc n)) m t (w .len) e in
+    known-filtered m x (Memᴰ·append-right (p .models) (List·Memᴰ·head refl)) (known-more m x w)
+known {k} (next-none {size = size} {p = p} n t r o e) =
+    known-none (min size (suc n)) (known r) (chunk-none-of k p (min size (suc n)) t e)
+
+-- ---- every call settles a candidate
+
+pub size-pos : {k : Task} {size : ℕ} {p : Progress} → 1 ≤ k .limit → Reached k size p → 1 ≤ size
+size-pos h (first-model m t e) = omega arith
+size-pos h (next-model n m t r o e) = omega arith
+size-pos h (next-none {size = size} n t r o e) = omega (arith, size-pos h r)
+
+in-take : {A : Type 0} {x : A} (n : ℕ) (xs : List A) → In x (take n xs) → In x xs
+in-take zero xs h = absurd (List·Memᴰ·not-nil h)
+in-take (suc n) [] h = h
+in-take (suc n) (y ∷ ys) (List·Memᴰ·head e) = List·Memᴰ·head e
+in-take (suc n) (y ∷ ys) (List·Memᴰ·tail h) = List·Memᴰ·tail (in-take n ys h)
+
+map-in : {A B : Type 0} (f : A → B) {y : B} (xs : List A) → In y (map f xs) → (x : A) × In x xs × (y ≡ f x)
+map-in f [] h = absurd (List·Memᴰ·not-nil h)
+map-in f (x ∷ xs) (List·Memᴰ·head e) = (x, List·Memᴰ·head refl, e)
+map-in f (x ∷ xs) (List·Memᴰ·tail h) = let (z, i, e) = map-in f xs h in (z, List·Memᴰ·tail i, e)
+
+-- values that make the constraint of a chunk true differ from the first model at an open variable
+constraint-differs : (first : Values) → Total first → (ss : List ℕ) (n : ℕ) (m : Values) → hasTrue m (constraint (take n (candidatesFrom 0 first ss))) ≡ true → (i : ℕ) × (statusAt ss i ≡ 0) × (differs first m i ≡ true)
+constraint-differs first total ss n m h =
+    let (y, i, t) = any-sound (isTrue m) (constraint (take n (candidatesFrom 0 first ss))) h in
+    let (l, j, e) = map-in negated (take n (candidatesFrom 0 first ss)) i in
+    let (x, q, z) = candidate-open 0 first ss (in-take n (candidatesFrom 0 first ss) j) in
+    (x, z, ap not (ne-eqb (valueAt m x) (valueAt first x) (apart x (rw (e, q, zero-add) at t))))
+  where
+    apart : (x : ℕ) → isTrue m (negated (literalAt x (valueAt first x))) ≡ true → valueAt m x ≢ valueAt first x
+    apart x t d =
+        let (a, b) = literalAt-negated x (valueAt first x) (total .valued x) in
+        otherByte-valued (valueAt first x) (total .valued x) .1 (sym (byte a b) ∙ d)
+      where
+        byte : indexOf (negated (literalAt x (valueAt first x))) ≡ x → trueByte (negated (literalAt x (valueAt first x))) ≡ otherByte (valueAt first x) → valueAt m x ≡ otherByte (valueAt first x)
+        byte a b = ap (valueAt m) (sym a) ∙ eqb-true _ _ t ∙ b
+
+pub model-drops : {k : Task} {size : ℕ} {p : Progress} (n : ℕ) (m : Values) (t : ℕ) → Reached k size p → chunkCall k p n ≡ model m t → opens (filtered k p m) < opens (p .statuses)
+model-drops {k} {size} {p} n m t r e =
+    let s = chunk-model-of k p n m t e in
+    let c : hasTrue m (constraint (chunkOf p n)) ≡ true = and-left (hasTrue m (constraint (chunkOf p n))) true (satisfies-right m (k .formula) (constraint (chunkOf p n) ∷ []) (s .all-true)) in
+    let (i, z, d) = constraint-differs (p .first) (first-model-is (known r) .total) (p .statuses) n m c in
+    omega (arith, opens-freed-lt 0 (differs (p .first) m) (p .statuses) i z (rw zero-add d), freed-counts 0 (canFlip (k .formula) m) (compared (p .first) m (p .statuses)) .opens-le)
+
+pub none-forces : {k : Task} {size : ℕ} {p : Progress} (n : ℕ) → Reached k size p → n ≤ opens (p .statuses) → ForcedMore n (p .statuses) (forceFirst (p .first) (p .statuses) n)
+none-forces {k} {size} {p} n r h =
+    let w = known r in forceFirst-counts (p .first) (p .statuses) n (first-model-is w .len ∙ sym (w .len)) h
+
+-- ---- how a run ends
+
+chunksIn-ends : {k : Task} → 1 ≤ k .limit → (n : ℕ) {size : ℕ} {p : Progress} → Reached k size p → opens (p .statuses) ≤ n → Ends k (chunksIn n k size p)
+unfolding chunksIn
+chunksIn-ends {k} h zero r o = settled r (omega arith)
+chunksIn-ends {k} h (suc n) {size} {p} r o = on-open (opens (p .statuses)) refl (λ s q rq oq. chunksIn-ends h n rq oq)
+  where
+    IH : Type 0
+    IH = (s : ℕ) (q : Progress) → Reached k s q → opens (q .statuses) ≤ n → Ends k (chunksIn n k s q)
+
+    on-call : (j : ℕ) → opens (p .statuses) ≡ suc j → IH → (c : Call) → chunkCall k p (min size (suc j)) ≡ c → Ends k (onCall c k p size (min size (suc j)) (λ s q. chunksIn n k s q))
+    on-call j z ih (model m t) e = ih _ _ (next-model j m t r z e) (omega (arith, model-drops (min size (suc j)) m t r e))
+    on-call j z ih (no-model t) e =
+        ih _ _ (next-none j t r z e) (omega (arith, size-pos h r, none-forces (min size (suc j)) r (omega arith) .opens-less))
+    on-call j z ih (stopped t) e = next-stopped j t r z e
+
+    on-open : (j : ℕ) → opens (p .statuses) ≡ j → IH → Ends k (onOpen j k size p (λ s q. chunksIn n k s q))
+    on-open zero z ih = settled r z
+    on-open (suc j) z ih = on-call j z ih (chunkCall k p (min size (suc j))) refl
+
+pub run-ends : (k : Task) → 1 ≤ k .limit → Ends k (run k)
+unfolding run chunks
+run-ends k h = on-first (firstCall k) refl
+  where
+    on-first : (c : Call) → firstCall k ≡ c → Ends k (onFirst c k)
+    on-first (model m t) e = chunksIn-ends h _ (first-model m t e) (omega arith)
+    on-first (no-model t) e = first-none t e
+    on-first (stopped t) e = first-stopped t e

@@ -1,0 +1,83 @@
+-- DIMACS CNF as document 01 gives it, as a grammar: what a text is, and not how it is read. specs/Reading.antt reads; that both
+-- agree is a theorem. Assumes nothing.
+use mathlib.Core.Path.{_≡_}
+use mathlib.Core.Bool.{true, false}
+use mathlib.Core.List.{List, [], _∷_, _++_}
+use Prim.Native.Nat.{ℕ, zero, suc, _≤_}
+use lib.IntN.{ℤ, pos, negsuc}
+use lib.ListN.{length}
+use Rattle.rules.specs.Lists.{In, any, all}
+use Rattle.rules.specs.Numbers.{maxText, maxVars, maxClauses, maxEntries}
+use Rattle.rules.specs.Meaning.{varOf}
+use Rattle.rules.specs.Text.{isLf, isGap, isBlank, isDigit, numeral}
+use Rattle.rules.specs.Reading.{isZero}
+
+-- ---- lines before the header, each with its LF
+
+pub record NoLf (bs : List ℕ) : Type 0 where
+  pub none : any isLf bs ≡ false
+
+pub record Blanks (bs : List ℕ) : Type 0 where
+  pub each : all isBlank bs ≡ true
+
+pub data Skipped : List ℕ → Type 0 where
+  blanks : {bs : List ℕ} → Blanks bs → NoLf bs → Skipped bs
+  comment : {bs : List ℕ} → NoLf bs → Skipped (99 ∷ bs)
+
+pub data Before : List ℕ → Type 0 where
+  nothing : Before []
+  line : {bs rest : List ℕ} → Skipped bs → Before rest → Before (bs ++ 10 ∷ rest)
+
+-- ---- the header line
+
+-- one or more spaces or tabs
+pub record Gap (bs : List ℕ) : Type 0 where
+  pub some : 1 ≤ length bs
+  pub each : all isGap bs ≡ true
+
+-- 1 to 9 digits that say n
+pub record Numeral (ds : List ℕ) (n : ℕ) : Type 0 where
+  pub digits : all isDigit ds ≡ true
+  pub some : 1 ≤ length ds
+  pub most : length ds ≤ 9
+  pub says : numeral ds ≡ n
+
+pub data Header : List ℕ → ℕ → ℕ → Type 0 where
+  header : {g h k v c end : List ℕ} {vars clauses : ℕ} → Gap g → Gap h → Numeral v vars → Gap k → Numeral c clauses → Blanks end → NoLf end → Header (112 ∷ g ++ 99 ∷ 110 ∷ 102 ∷ h ++ v ++ k ++ c ++ end) vars clauses
+
+-- ---- tokens behind it
+
+pub data Token : List ℕ → ℤ → Type 0 where
+  plain : {ds : List ℕ} {n : ℕ} → Numeral ds n → Token ds (pos n)
+  minus : {ds : List ℕ} {n : ℕ} → Numeral ds (suc n) → Token (45 ∷ ds) (negsuc n)
+
+-- a token is ended by a blank or the end of text
+pub data Ended : List ℕ → Type 0 where
+  at-end : Ended []
+  at-blank : {b : ℕ} {bs : List ℕ} → isBlank b ≡ true → Ended (b ∷ bs)
+
+pub data Body : List ℕ → List ℤ → Type 0 where
+  blanks : {bs : List ℕ} → Blanks bs → Body bs []
+  token : {bs w rest : List ℕ} {l : ℤ} {es : List ℤ} → Blanks bs → Token w l → Ended rest → Body rest es → Body (bs ++ w ++ rest) (l ∷ es)
+
+-- the header line ends at LF or the end of text
+pub data Text : List ℕ → ℕ → ℕ → List ℤ → Type 0 where
+  header-only : {a h : List ℕ} {vars clauses : ℕ} → Before a → Header h vars clauses → Text (a ++ h) vars clauses []
+  with-body : {a h rest : List ℕ} {vars clauses : ℕ} {es : List ℤ} → Before a → Header h vars clauses → Body rest es → Text (a ++ h ++ 10 ∷ rest) vars clauses es
+
+-- ---- entries: exactly n clauses, each ended by 0
+
+pub data ClausesOf : ℕ → List ℤ → Type 0 where
+  no-clause : ClausesOf 0 []
+  clause : {n : ℕ} (cl : List ℤ) {es : List ℤ} → any isZero cl ≡ false → ClausesOf n es → ClausesOf (suc n) (cl ++ pos 0 ∷ es)
+
+-- ---- a text that says the entries es over V variables in C clauses, within the sizes
+
+pub record Dimacs (text : List ℕ) (vars clauses : ℕ) (es : List ℤ) : Type 0 where
+  pub says : Text text vars clauses es
+  pub exactly : ClausesOf clauses es
+  pub up-to : (l : ℤ) → In l es → varOf l ≤ vars
+  pub text-fits : length text ≤ maxText
+  pub vars-fit : vars ≤ maxVars
+  pub clauses-fit : clauses ≤ maxClauses
+  pub entries-fit : length es ≤ maxEntries

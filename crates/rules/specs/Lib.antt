@@ -1,0 +1,17 @@
+pub mod Lists
+pub mod Numbers
+pub mod Text
+pub mod Reading
+pub mod Grammar
+pub mod Refusals
+pub mod Plain
+pub mod Meaning
+pub mod Closing
+pub mod Visits
+pub mod Search
+pub mod Units
+pub mod Run
+pub mod Answer
+pub mod Log
+pub mod Models
+pub mod Printed

@@ -1,0 +1,72 @@
+-- Document 01, "Sizes", and the numbers and places of "What comes back", for each answer. Assumes nothing.
+use Prim.Native.Nat.{ℕ}
+use Rattle.rules.specs.declared.Outcome.{Outcome}
+use Rattle.rules.specs.declared.ReadAnswer.{ReadAnswer}
+use Rattle.rules.specs.declared.RunAnswer.{RunAnswer}
+
+-- bytes of a text
+abbrev pub maxText : ℕ
+maxText = 32768
+
+abbrev pub maxVars : ℕ
+maxVars = 256
+
+abbrev pub maxClauses : ℕ
+maxClauses = 1024
+
+-- literals and closing zeros together
+abbrev pub maxEntries : ℕ
+maxEntries = 4096
+
+abbrev pub maxChunk : ℕ
+maxChunk = 256
+
+-- the log's second column: 1 model, 2 none, 3 stopped
+abbrev pub outcomeNumber : Outcome → ℕ
+outcomeNumber Outcome.Model = 1
+outcomeNumber Outcome.NoModel = 2
+outcomeNumber Outcome.Stopped = 3
+
+-- the table of numbers and places, for a reading
+abbrev pub readNumber : ReadAnswer → ℕ
+readNumber ReadAnswer.Accepted = 0
+readNumber ReadAnswer.BufferShort = 1
+readNumber ReadAnswer.TextLong = 2
+readNumber (ReadAnswer.BadHeader at) = 3
+readNumber (ReadAnswer.HeaderLarge at) = 4
+readNumber (ReadAnswer.BadToken at) = 5
+readNumber (ReadAnswer.TokenAfterLast at) = 6
+readNumber (ReadAnswer.VariableAbove at) = 7
+readNumber (ReadAnswer.EntryOver at) = 8
+readNumber (ReadAnswer.EndsEarly at) = 9
+
+abbrev pub readPlace : ReadAnswer → ℕ
+readPlace ReadAnswer.Accepted = 0
+readPlace ReadAnswer.BufferShort = 0
+readPlace ReadAnswer.TextLong = maxText
+readPlace (ReadAnswer.BadHeader at) = at
+readPlace (ReadAnswer.HeaderLarge at) = at
+readPlace (ReadAnswer.BadToken at) = at
+readPlace (ReadAnswer.TokenAfterLast at) = at
+readPlace (ReadAnswer.VariableAbove at) = at
+readPlace (ReadAnswer.EntryOver at) = at
+readPlace (ReadAnswer.EndsEarly at) = at
+
+-- and for a run
+abbrev pub runNumber : RunAnswer → ℕ
+runNumber RunAnswer.Settled = 0
+runNumber RunAnswer.BufferShort = 1
+runNumber RunAnswer.OutOfLimits = 10
+runNumber (RunAnswer.BadList at) = 11
+runNumber (RunAnswer.VariableAbove at) = 12
+runNumber RunAnswer.NoModel = 20
+runNumber RunAnswer.Stopped = 21
+
+abbrev pub runPlace : RunAnswer → ℕ
+runPlace RunAnswer.Settled = 0
+runPlace RunAnswer.BufferShort = 0
+runPlace RunAnswer.OutOfLimits = 0
+runPlace (RunAnswer.BadList at) = at
+runPlace (RunAnswer.VariableAbove at) = at
+runPlace RunAnswer.NoModel = 0
+runPlace RunAnswer.Stopped = 0

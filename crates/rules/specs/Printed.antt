@@ -1,0 +1,117 @@
+-- Document 01, "The table program": the bytes that are printed for a text. Assumes nothing.
+use mathlib.Core.Path.{_≡_}
+use mathlib.Core.List.{List, [], _∷_, _++_}
+use mathlib.Core.Option.{Option, none, some}
+use Prim.Native.Nat.{ℕ, zero, suc, _-_}
+use lib.IntN.{ℤ}
+use lib.ListN.{length, replicate}
+use Rattle.rules.specs.declared.RunAnswer.{RunAnswer}
+use Rattle.rules.specs.declared.Report.{Report}
+use Rattle.rules.specs.Numbers.{maxEntries, readNumber, readPlace, runNumber, runPlace}
+use Rattle.rules.specs.Text.{Sizes}
+use Rattle.rules.specs.Reading.{Judged, accepted, refused, judge}
+use Rattle.rules.specs.Plain.{decimal}
+use Rattle.rules.specs.Answer.{Given, logLength, reportOf, statusAfter}
+
+-- ---- words, each with the blanks around it
+
+-- "answer "
+abbrev pub answerWord : List ℕ
+answerWord = 97 ∷ 110 ∷ 115 ∷ 119 ∷ 101 ∷ 114 ∷ 32 ∷ []
+
+-- " calls "
+abbrev pub callsWord : List ℕ
+callsWord = 32 ∷ 99 ∷ 97 ∷ 108 ∷ 108 ∷ 115 ∷ 32 ∷ []
+
+-- " tries "
+abbrev pub triesWord : List ℕ
+triesWord = 32 ∷ 116 ∷ 114 ∷ 105 ∷ 101 ∷ 115 ∷ 32 ∷ []
+
+-- " forced"
+abbrev pub forcedWord : List ℕ
+forcedWord = 32 ∷ 102 ∷ 111 ∷ 114 ∷ 99 ∷ 101 ∷ 100 ∷ []
+
+-- " free"
+abbrev pub freeWord : List ℕ
+freeWord = 32 ∷ 102 ∷ 114 ∷ 101 ∷ 101 ∷ []
+
+-- " open"
+abbrev pub openWord : List ℕ
+openWord = 32 ∷ 111 ∷ 112 ∷ 101 ∷ 110 ∷ []
+
+-- " on"
+abbrev pub onWord : List ℕ
+onWord = 32 ∷ 111 ∷ 110 ∷ []
+
+-- " off"
+abbrev pub offWord : List ℕ
+offWord = 32 ∷ 111 ∷ 102 ∷ 102 ∷ []
+
+-- "refused "
+abbrev pub refusedWord : List ℕ
+refusedWord = 114 ∷ 101 ∷ 102 ∷ 117 ∷ 115 ∷ 101 ∷ 100 ∷ 32 ∷ []
+
+-- " place "
+abbrev pub placeWord : List ℕ
+placeWord = 32 ∷ 112 ∷ 108 ∷ 97 ∷ 99 ∷ 101 ∷ 32 ∷ []
+
+-- ---- lines, each ended by LF
+
+abbrev pub refusedLine : ℕ → ℕ → List ℕ
+refusedLine number place = refusedWord ++ decimal number ++ placeWord ++ decimal place ++ 10 ∷ []
+
+-- the returned numbers; open is V less both
+abbrev pub answerLine : ℕ → Report → List ℕ
+answerLine vars r =
+    answerWord ++ decimal (runNumber (r .answer)) ++
+    callsWord ++ decimal (r .calls) ++
+    triesWord ++ decimal (r .tries) ++
+    forcedWord ++ 32 ∷ decimal (r .forced) ++
+    freeWord ++ 32 ∷ decimal (r .free) ++
+    openWord ++ 32 ∷ decimal (vars - r .forced - r .free) ++
+    10 ∷ []
+
+abbrev pub statusWords : ℕ → List ℕ
+statusWords zero = openWord
+statusWords (suc zero) = freeWord
+statusWords (suc (suc zero)) = forcedWord ++ onWord
+statusWords (suc (suc (suc s))) = forcedWord ++ offWord
+
+-- a line a variable, the first one of variable v
+abbrev pub statusLines : ℕ → List ℕ → List ℕ
+statusLines v [] = []
+statusLines v (s ∷ ss) = decimal v ++ statusWords s ++ 10 ∷ statusLines (suc v) ss
+
+-- ---- the table: only the first line after 20, only the refusal if there is one
+
+abbrev pub tableOfRun : ℕ → Report → List ℕ → List ℕ
+tableOfRun vars r ss = byAnswer (r .answer)
+  where
+    byAnswer : RunAnswer → List ℕ
+    byAnswer RunAnswer.Settled = answerLine vars r ++ statusLines 1 ss
+    byAnswer RunAnswer.Stopped = answerLine vars r ++ statusLines 1 ss
+    byAnswer RunAnswer.NoModel = answerLine vars r
+    byAnswer RunAnswer.BufferShort = refusedLine (runNumber (r .answer)) (runPlace (r .answer))
+    byAnswer RunAnswer.OutOfLimits = refusedLine (runNumber (r .answer)) (runPlace (r .answer))
+    byAnswer (RunAnswer.BadList at) = refusedLine (runNumber (r .answer)) (runPlace (r .answer))
+    byAnswer (RunAnswer.VariableAbove at) = refusedLine (runNumber (r .answer)) (runPlace (r .answer))
+
+-- budget 1,000,000 and chunk limit 16, with buffers of just the size
+abbrev pub tableGiven : Sizes → List ℤ → Given
+tableGiven s es =
+    record {
+      entries = es;
+      vars = s .vars;
+      budget = 1000000;
+      limit = 16;
+      status = replicate (s .vars) 0;
+      log = replicate (logLength (s .vars)) 0;
+    }
+
+abbrev pub tableOfJudged : Judged → List ℕ
+tableOfJudged (refused a) = refusedLine (readNumber a) (readPlace a)
+tableOfJudged (accepted s es) =
+    tableOfRun (s .vars) (reportOf (tableGiven s es)) (statusAfter (tableGiven s es))
+
+unfoldable pub tableOf : List ℕ → List ℕ
+tableOf text = tableOfJudged (judge maxEntries text)

@@ -1,0 +1,17 @@
+-- Document 01's form of a call: the literals that are forced already are clauses of one literal each, beside the others. A run
+-- starts its calls from them as values instead; proofs/SearchOrder shows that the calls are the same. Assumes nothing.
+use mathlib.Core.List.{List, [], _∷_}
+use Prim.Native.Nat.{ℕ, zero, suc}
+use lib.IntN.{ℤ, pos, negsuc}
+use Rattle.rules.specs.Meaning.{Clause, Values}
+
+-- in front of cls, the one-literal clause by which the variable at an index has a byte: 1 false, 2 true; none for an unset variable
+abbrev pub unitAt : ℕ → ℕ → List Clause → List Clause
+unitAt zero j cls = cls
+unitAt (suc zero) j cls = (negsuc j ∷ []) ∷ cls
+unitAt (suc (suc b)) j cls = (pos (suc j) ∷ []) ∷ cls
+
+-- one clause for each variable that is set, where the first stands at index j
+abbrev pub units : ℕ → Values → List Clause
+units j [] = []
+units j (b ∷ vs) = unitAt b j (units (suc j) vs)

@@ -1,0 +1,83 @@
+// The types that the definitions in specs/ name, and the sizes of document 01, "Sizes". No function is here: the crates above
+// compute what specs/ defines, and theorems about it stand in proofs/.
+
+// A variable's number, from 1.
+pub struct Var(pub u32);
+
+// A literal: a variable with a sign. It is never 0.
+pub struct Lit(pub i32);
+
+// A clause's number, from 1.
+pub struct ClauseNo(pub u32);
+
+// "Sizes".
+pub const MAX_TEXT: usize = 32768;
+
+pub const MAX_VARS: u32 = 256;
+
+pub const MAX_CLAUSES: u32 = 1024;
+
+pub const MAX_ENTRIES: usize = 4096;
+
+pub const MAX_CHUNK: u32 = 256;
+
+// What a clause is under some values ("Closing").
+pub enum ClauseState {
+    // It has no true literal and no unset one.
+    False,
+    // It has no true literal and exactly one distinct unset one, which is held here.
+    Unit(Lit),
+    // It has a true literal.
+    True,
+    // It has no true literal and two distinct unset ones.
+    Undecided,
+}
+
+// What a call of the search ends with ("What comes back": 1, 2, 3).
+pub enum Outcome {
+    Model,
+    NoModel,
+    Stopped,
+}
+
+// The answer of a reading, with its place where that is not fixed. Its number and place are readNumber and readPlace.
+pub enum ReadAnswer {
+    Accepted,
+    BufferShort,
+    TextLong,
+    BadHeader(usize),
+    HeaderLarge(usize),
+    BadToken(usize),
+    TokenAfterLast(usize),
+    VariableAbove(usize),
+    EntryOver(usize),
+    EndsEarly(usize),
+}
+
+// What a reading returns.
+pub struct Reading {
+    pub answer: ReadAnswer,
+    pub vars: u32,
+    pub clauses: u32,
+    pub entries: usize,
+}
+
+// The answer of a run, with its place where that is not fixed. Its number and place are runNumber and runPlace.
+pub enum RunAnswer {
+    Settled,
+    BufferShort,
+    OutOfLimits,
+    BadList(usize),
+    VariableAbove(usize),
+    NoModel,
+    Stopped,
+}
+
+// What a run returns.
+pub struct Report {
+    pub answer: RunAnswer,
+    pub calls: u32,
+    pub tries: u32,
+    pub forced: u32,
+    pub free: u32,
+}
