@@ -26,7 +26,7 @@ use Rattle.rules.specs.Models.{Extends}
 use Rattle.rules.specs.Visits.{Quiet}
 use Rattle.rules.proofs.ListLaws.{and-left, and-right}
 use Rattle.rules.proofs.MeaningLaws.{Proper, proper-assign, extends-refl, extends-trans, extends-assign, assign-extends, unsets-assign}
-pub use Rattle.rules.proofs.StateLaws.{AllFalse, OneUnset, TwoUnset, Means, means, unit-sound, false-sound, Calm, calm-of-quiet, quiet-of-calm}
+pub use Rattle.rules.proofs.StateLaws.{AllFalse, OneUnset, TwoUnset, Means, means, state-unique, unit-sound, false-sound, Calm, calm-of-quiet, quiet-of-calm}
 
 -- ---- a round: what it makes of the values extends them, and it counts what it sets
 
@@ -47,7 +47,8 @@ round-at-false : (cls : List Clause) → round cls at-false ≡ at-false
 round-at-false [] = refl
 round-at-false (cl ∷ cls) = round-at-false cls
 
-after-unit : (cl : Clause) (cls : List Clause) (vs : Values) (n : ℕ) (l : ℤ) → isUnset vs l ≡ true → (r : Round) → After cls (assign vs l) (suc n) r → After (cl ∷ cls) vs n r
+after-unit : (cl : Clause) (cls : List Clause) (vs : Values) (n : ℕ) (l : ℤ) → isUnset vs l ≡ true → (r : Round)
+    → After cls (assign vs l) (suc n) r → After (cl ∷ cls) vs n r
 after-unit cl cls vs n l u at-false w = tt
 after-unit cl cls vs n l u (under-way ws k) w =
     let d : suc (unsets (assign vs l)) ≡ unsets vs = unsets-assign vs l u in
@@ -67,7 +68,8 @@ quiet-cons cl cls vs c q = quiet-of-calm go
     go d (List·Memᴰ·head e) = rw e c
     go d (List·Memᴰ·tail i) = calm-of-quiet d q i
 
-after-calm : (cl : Clause) (cls : List Clause) (vs : Values) (n : ℕ) → Calm (stateOf vs cl) → (r : Round) → After cls vs n r → After (cl ∷ cls) vs n r
+after-calm : (cl : Clause) (cls : List Clause) (vs : Values) (n : ℕ) → Calm (stateOf vs cl) → (r : Round) → After cls vs n r
+    → After (cl ∷ cls) vs n r
 after-calm cl cls vs n c at-false w = tt
 after-calm cl cls vs n c (under-way ws k) w =
     record {
@@ -87,13 +89,15 @@ round-after [] vs n =
       proper = λ p. p;
       counted = refl;
       up = omega arith;
-      still = λ e. (refl, record { not-false = λ cl i. absurd (List·Memᴰ·not-nil i); not-unit = λ cl l i. absurd (List·Memᴰ·not-nil i) });
+      still = λ e. (refl, quiet-of-calm (λ cl i. absurd (List·Memᴰ·not-nil i)));
     }
 round-after (cl ∷ cls) vs n = go (stateOf vs cl) refl (means vs cl) (λ ws k. round-after cls ws k)
   where
-    go : (s : ClauseState) → stateOf vs cl ≡ s → Means vs cl s → ((ws : Values) (k : ℕ) → After cls ws k (round cls (under-way ws k))) → After (cl ∷ cls) vs n (round cls (met s vs n))
+    go : (s : ClauseState) → stateOf vs cl ≡ s → Means vs cl s
+        → ((ws : Values) (k : ℕ) → After cls ws k (round cls (under-way ws k))) → After (cl ∷ cls) vs n (round cls (met s vs n))
     go False e m ih = rw round-at-false tt
-    go (Unit l) e m ih = after-unit cl cls vs n (l .0) (m .unset) (round cls (under-way (assign vs (l .0)) (suc n))) (ih (assign vs (l .0)) (suc n))
+    go (Unit l) e m ih =
+        after-unit cl cls vs n (l .0) (m .unset) (round cls (under-way (assign vs (l .0)) (suc n))) (ih (assign vs (l .0)) (suc n))
     go True e m ih = after-calm cl cls vs n (rw e tt) (round cls (under-way vs n)) (ih vs n)
     go Undecided e m ih = after-calm cl cls vs n (rw e tt) (round cls (under-way vs n)) (ih vs n)
 
@@ -102,13 +106,16 @@ round-after (cl ∷ cls) vs n = go (stateOf vs cl) refl (means vs cl) (λ ws k. 
 module _ (F : List Clause) (P : Values → Closed → Type 0)
     (stop : (vs : Values) → round F (under-way vs 0) ≡ at-false → P vs clash)
     (still : (vs : Values) → round F (under-way vs 0) ≡ under-way vs 0 → Quiet vs F → P vs (closed vs))
-    (on : (vs ws : Values) (n : ℕ) → round F (under-way vs 0) ≡ under-way ws (suc n) → Went F vs 0 ws (suc n) → (r : Closed) → P ws r → P vs r)
+    (on : (vs ws : Values) (n : ℕ) → round F (under-way vs 0) ≡ under-way ws (suc n) → Went F vs 0 ws (suc n)
+    → (r : Closed) → P ws r → P vs r)
   where
-    again-rec : (vs : Values) (more : Values → Closed) → ((ws : Values) → unsets ws < unsets vs → P ws (more ws)) → P vs (again (round F (under-way vs 0)) more)
+    again-rec : (vs : Values) (more : Values → Closed) → ((ws : Values) → unsets ws < unsets vs → P ws (more ws))
+        → P vs (again (round F (under-way vs 0)) more)
     again-rec vs more ih = go (round F (under-way vs 0)) refl (round-after F vs 0)
       where
         -- a round that sets nothing leaves the values
-        closed-same : (ws : Values) (n : ℕ) → n ≡ 0 → round F (under-way vs 0) ≡ under-way ws n → Went F vs 0 ws n → P vs (closed ws)
+        closed-same : (ws : Values) (n : ℕ) → n ≡ 0 → round F (under-way vs 0) ≡ under-way ws n → Went F vs 0 ws n
+            → P vs (closed ws)
         closed-same ws n z e w = let (d, q) = w .still z in rw (← d) (still vs (e ∙ cc) q)
 
         go : (r : Round) → round F (under-way vs 0) ≡ r → After F vs 0 r → P vs (again r more)
@@ -128,7 +135,8 @@ module _ (F : List Clause) (P : Values → Closed → Type 0)
 pub closeIn-enough : (F : List Clause) (n : ℕ) (vs : Values) → unsets vs ≤ n → closeIn n F vs ≡ closing F vs
 unfolding closeIn
 closeIn-enough F n vs h =
-    closing-rec F (λ ws r. (k : ℕ) → unsets ws ≤ k → closeIn k F ws ≡ r) (λ ws e k l. stop ws e k) (λ ws e q k l. still ws e k) on vs n h
+    closing-rec F (λ ws r. (k : ℕ) → unsets ws ≤ k → closeIn k F ws ≡ r)
+    (λ ws e k l. stop ws e k) (λ ws e q k l. still ws e k) on vs n h
   where
     stop : (ws : Values) → round F (under-way ws 0) ≡ at-false → (k : ℕ) → closeIn k F ws ≡ clash
     stop ws e zero = rw e
@@ -138,7 +146,8 @@ closeIn-enough F n vs h =
     still ws e zero = rw e
     still ws e (suc k) = rw e
 
-    on : (ws ds : Values) (n : ℕ) → round F (under-way ws 0) ≡ under-way ds (suc n) → Went F ws 0 ds (suc n) → (r : Closed) → ((k : ℕ) → unsets ds ≤ k → closeIn k F ds ≡ r) → (k : ℕ) → unsets ws ≤ k → closeIn k F ws ≡ r
+    on : (ws ds : Values) (n : ℕ) → round F (under-way ws 0) ≡ under-way ds (suc n) → Went F ws 0 ds (suc n) → (r : Closed)
+        → ((k : ℕ) → unsets ds ≤ k → closeIn k F ds ≡ r) → (k : ℕ) → unsets ws ≤ k → closeIn k F ws ≡ r
     on ws ds n e w r ih zero h = absurd (omega (arith, w .counted))
     on ws ds n e w r ih (suc k) h = rw e (ih k (omega (arith, w .counted)))
 
@@ -163,7 +172,8 @@ module _ (m : Values) where
   Keeps clash = ⊥
   Keeps (closed vs) = Extends vs m
 
-  met-below : (cl : Clause) (vs : Values) (n : ℕ) → hasTrue m cl ≡ true → Extends vs m → (s : ClauseState) → Means vs cl s → Below (met s vs n)
+  met-below : (cl : Clause) (vs : Values) (n : ℕ) → hasTrue m cl ≡ true → Extends vs m → (s : ClauseState) → Means vs cl s
+      → Below (met s vs n)
   met-below cl vs n h x False s = false-sound cl x h s
   met-below cl vs n h x (Unit l) s = assign-extends (l .0) x (unit-sound cl (l .0) x h s)
   met-below cl vs n h x True s = x
@@ -179,7 +189,8 @@ module _ (m : Values) where
 
   pub closing-sound : (F : List Clause) → satisfies m F ≡ true → (vs : Values) → Extends vs m → Keeps (closing F vs)
   closing-sound F h =
-      closing-rec F (λ vs r. Extends vs m → Keeps r) (λ vs e x. rw e at (below vs x)) (λ vs e q x. x) (λ vs ws n e w r ih x. ih (rw e at (below vs x)))
+      closing-rec F (λ vs r. Extends vs m → Keeps r)
+      (λ vs e x. rw e at (below vs x)) (λ vs e q x. x) (λ vs ws n e w r ih x. ih (rw e at (below vs x)))
     where
       below : (vs : Values) → Extends vs m → Below (round F (under-way vs 0))
       below vs x = round-below F h (under-way vs 0) x

@@ -13,23 +13,22 @@
 -- Assumes nothing.
 use mathlib.Core.Path.{_≡_, refl, sym, _∙_, ap}
 use mathlib.Core.Logic.{_≢_, _⊎_, inl, inr}
-use mathlib.Core.Bool.{Bool, true, false}
+use mathlib.Core.Bool.{true, false}
 use mathlib.Core.List.{List, [], _∷_, List·Memᴰ·head, List·Memᴰ·tail}
-use Prim.Native.Nat.{ℕ, zero, suc, _<_}
+use Prim.Native.Nat.{ℕ}
 use lib.IntN.{ℤ, pos}
 use lib.ListN.{length, length-set}
 use borrow.Author.Tests.{eqb-true, eqb-false}
-use Rattle.rules.specs.declared.Lit.{Lit}
 use Rattle.rules.specs.declared.ClauseState.{ClauseState}
 use Rattle.rules.specs.declared.ClauseState.the-variants.{False, Unit, True, Undecided}
 use Rattle.rules.specs.Lists.{In, eqz}
 use Rattle.rules.specs.Meaning.{Clause, Values, indexOf, valueAt, trueByte, falseByte, isTrue, isUnset, assign, hasTrue}
-use Rattle.rules.specs.Closing.{stateOf, Round, under-way, at-false, met, visit, round, Closed, clash, closed, again, unsets, closing}
+use Rattle.rules.specs.Closing.{stateOf, Round, under-way, at-false, met, visit, round, Closed, clash, closed, closing}
 use Rattle.rules.specs.Models.{Extends, Covers}
 use Rattle.rules.specs.Visits.{Visits, start, unit, Quiet}
 use Rattle.rules.proofs.ListLaws.{both, never, not-true, any-sound, none-of-any, eqz-sound, eqz-complete}
 use Rattle.rules.proofs.MeaningLaws.{Proper, proper-assign, set-elim, extends-refl, extends-trans, extends-antisym, extends-assign, false-byte, not-true-of-false}
-use Rattle.rules.proofs.ClosingLaws.{OneUnset, AllFalse, Means, means, Calm, calm-of-quiet, closing-rec, Settled, Ends, closing-ends}
+use Rattle.rules.proofs.ClosingLaws.{OneUnset, AllFalse, Means, means, Calm, calm-of-quiet, closing-rec, Ends, closing-ends}
 
 -- ---- closing is one order of visits
 
@@ -50,13 +49,15 @@ module _ (F : List Clause) (vs : Values) where
   VisitedBy (under-way ws n) = Visits F vs ws
   VisitedBy at-false = FalseMet F vs
 
-  met-visited : (cl : Clause) → In cl F → (ws : Values) (n : ℕ) → Visits F vs ws → (s : ClauseState) → stateOf ws cl ≡ s → VisitedBy (met s ws n)
+  met-visited : (cl : Clause) → In cl F → (ws : Values) (n : ℕ) → Visits F vs ws → (s : ClauseState) → stateOf ws cl ≡ s
+      → VisitedBy (met s ws n)
   met-visited cl i ws n v False e = record { values = ws; clause = cl; visits = v; is-in = i; is-false = e }
   met-visited cl i ws n v (Unit l) e = unit cl l v i e
   met-visited cl i ws n v True e = v
   met-visited cl i ws n v Undecided e = v
 
-  round-visited : (cls : List Clause) → ((cl : Clause) → In cl cls → In cl F) → (r : Round) → VisitedBy r → VisitedBy (round cls r)
+  round-visited : (cls : List Clause) → ((cl : Clause) → In cl cls → In cl F) → (r : Round) → VisitedBy r
+      → VisitedBy (round cls r)
   round-visited [] h r v = v
   round-visited (cl ∷ cls) h r v = round-visited cls (λ d i. h d (List·Memᴰ·tail i)) (visit cl r) (visited r v)
     where
@@ -65,7 +66,9 @@ module _ (F : List Clause) (vs : Values) where
       visited at-false v = v
 
 pub closing-visits : (F : List Clause) (vs : Values) → Visited F vs (closing F vs)
-closing-visits F vs = closing-rec F (λ ws r. Visits F vs ws → Visited F vs r) (λ ws e v. rw e at (by-round ws v)) (λ ws e q v. v) (λ ws ds n e w r ih v. ih (rw e at (by-round ws v))) vs start
+closing-visits F vs =
+    closing-rec F (λ ws r. Visits F vs ws → Visited F vs r)
+    (λ ws e v. rw e at (by-round ws v)) (λ ws e q v. v) (λ ws ds n e w r ih v. ih (rw e at (by-round ws v))) vs start
   where
     by-round : (ws : Values) → Visits F vs ws → VisitedBy F vs (round F (under-way ws 0))
     by-round ws v = round-visited F vs F (λ cl i. i) (under-way ws 0) v
@@ -75,7 +78,8 @@ closing-visits F vs = closing-rec F (λ ws r. Visits F vs ws → Visited F vs r)
 -- the byte at an index follows: it is there at the start, or it makes true the last literal of a clause whose others are false
 pub data Derived (F : List Clause) (vs : Values) : ℕ → ℕ → Type 0 where
   given : (i : ℕ) → valueAt vs i ≢ 0 → Derived F vs i (valueAt vs i)
-  last : (cl : Clause) (l : ℤ) → In cl F → In l cl → ((k : ℤ) → In k cl → eqz k l ≡ false → Derived F vs (indexOf k) (falseByte k)) → Derived F vs (indexOf l) (trueByte l)
+  last : (cl : Clause) (l : ℤ) → In cl F → In l cl
+      → ((k : ℤ) → In k cl → eqz k l ≡ false → Derived F vs (indexOf k) (falseByte k)) → Derived F vs (indexOf l) (trueByte l)
 
 pub derived-given : (F : List Clause) {vs : Values} (i b : ℕ) → valueAt vs i ≡ b → b ≢ 0 → Derived F vs i b
 derived-given F i b e n = rw (← e) (given i (λ z. n (sym e ∙ z)))
@@ -93,7 +97,8 @@ pub record Reached (F : List Clause) (vs ws : Values) : Type 0 where
   pub len : length ws ≡ length vs
   pub derived : (i : ℕ) → valueAt ws i ≢ 0 → Derived F vs i (valueAt ws i)
 
-false-derived : {F : List Clause} {vs ws : Values} {cl : Clause} (k : ℤ) → Reached F vs ws → hasTrue ws cl ≡ false → In k cl → isUnset ws k ≡ false → Derived F vs (indexOf k) (falseByte k)
+false-derived : {F : List Clause} {vs ws : Values} {cl : Clause} (k : ℤ) → Reached F vs ws → hasTrue ws cl ≡ false → In k cl
+    → isUnset ws k ≡ false → Derived F vs (indexOf k) (falseByte k)
 false-derived {F} {vs} {ws} k r n i u =
     rw (false-byte k (r .proper) (none-of-any (isTrue ws) n i) u) at (r .derived (indexOf k) (eqb-false _ _ u))
 
@@ -116,7 +121,8 @@ visits-derived {F} {vs} p (unit {ws = ws} cl l v i e) = go (visits-derived p v) 
         this : Derived F vs (indexOf (l .0)) (trueByte (l .0))
         this = last cl (l .0) i (o .is-in) (λ k j d. false-derived k r (o .none-true) j (set-others k j d))
 
-pub visits-refuted : {F : List Clause} {vs ws : Values} {cl : Clause} → Proper vs → Visits F vs ws → In cl F → stateOf ws cl ≡ False → Refuted F vs
+pub visits-refuted : {F : List Clause} {vs ws : Values} {cl : Clause} → Proper vs → Visits F vs ws → In cl F
+    → stateOf ws cl ≡ False → Refuted F vs
 visits-refuted {F} {vs} {ws} {cl} p v i e = go (visits-derived p v) (rw e at (means ws cl))
   where
     go : Reached F vs ws → AllFalse ws cl → Refuted F vs
@@ -125,7 +131,8 @@ visits-refuted {F} {vs} {ws} {cl} p v i e = go (visits-derived p v) (rw e at (me
 -- ---- what follows is set in every quiet extension
 
 -- at quiet values a clause whose literals are false, but perhaps l, has l and it is true
-last-true : {F : List Clause} {ws : Values} (cl : Clause) (l : ℤ) → Quiet ws F → In cl F → ((k : ℤ) → In k cl → eqz k l ≡ false → valueAt ws (indexOf k) ≡ falseByte k) → In l cl × (isTrue ws l ≡ true)
+last-true : {F : List Clause} {ws : Values} (cl : Clause) (l : ℤ) → Quiet ws F → In cl F
+    → ((k : ℤ) → In k cl → eqz k l ≡ false → valueAt ws (indexOf k) ≡ falseByte k) → In l cl × (isTrue ws l ≡ true)
 last-true {F} {ws} cl l q i f = go (stateOf ws cl) (calm-of-quiet cl q i) (means ws cl)
   where
     -- a literal that is true, or unset, is l
@@ -148,7 +155,8 @@ last-true {F} {ws} cl l q i f = go (stateOf ws cl) (calm-of-quiet cl q i) (means
         let b : m .two ≡ l = is-l (m .two) (m .two-in) (λ n u. never (m .two-unset) u) in
         absurd (never (eqz-complete (m .one) (m .two) (a ∙ sym b)) (m .differ))
 
-pub derived-set : {F : List Clause} {vs ws : Values} → Extends vs ws → Quiet ws F → {i b : ℕ} → Derived F vs i b → valueAt ws i ≡ b
+pub derived-set : {F : List Clause} {vs ws : Values} → Extends vs ws → Quiet ws F → {i b : ℕ} → Derived F vs i b
+    → valueAt ws i ≡ b
 derived-set x q (given i h) = x .agrees i h
 derived-set x q (last cl l i j f) = eqb-true _ _ (last-true cl l q i (λ k h d. derived-set x q (f k h d)) .1)
 
@@ -178,7 +186,8 @@ pub record Follows (F : List Clause) (vs : Values) (G : List Clause) (ws : Value
 pub follows-refl : (F : List Clause) (vs : Values) → Follows F vs F vs
 follows-refl F vs = record { derived = λ i b d. d; refuted = λ r. r }
 
-pub closes-unique : {F G : List Clause} {vs ws : Values} → length vs ≡ length ws → Follows F vs G ws → Follows G ws F vs → (r s : Closed) → ClosesTo F vs r → ClosesTo G ws s → r ≡ s
+pub closes-unique : {F G : List Clause} {vs ws : Values} → length vs ≡ length ws → Follows F vs G ws → Follows G ws F vs
+    → (r s : Closed) → ClosesTo F vs r → ClosesTo G ws s → r ≡ s
 closes-unique e f g clash clash x y = refl
 closes-unique e f g clash (closed b) x y = absurd (quiet-not-refuted (y .0 .ext) (y .1) (f .refuted x))
 closes-unique e f g (closed a) clash x y = absurd (quiet-not-refuted (x .0 .ext) (x .1) (g .refuted y))
@@ -187,7 +196,8 @@ closes-unique e f g (closed a) (closed b) x y =
     (record { agrees = λ i h. derived-set (y .0 .ext) (y .1) (f .derived i (valueAt a i) (x .0 .derived i h)) })
     (record { agrees = λ i h. derived-set (x .0 .ext) (x .1) (g .derived i (valueAt b i) (y .0 .derived i h)) }))
 
-pub closing-same : {F G : List Clause} {vs ws : Values} → length vs ≡ length ws → Proper vs → Proper ws → Follows F vs G ws → Follows G ws F vs → closing F vs ≡ closing G ws
+pub closing-same : {F G : List Clause} {vs ws : Values} → length vs ≡ length ws → Proper vs → Proper ws → Follows F vs G ws
+    → Follows G ws F vs → closing F vs ≡ closing G ws
 closing-same {F} {G} {vs} {ws} e p q f g =
     closes-unique e f g (closing F vs) (closing G ws) (closing-closes F vs p) (closing-closes G ws q)
 
@@ -195,11 +205,14 @@ closing-same {F} {G} {vs} {ws} e p q f g =
 
 pub visits-closed : {F : List Clause} {vs ws : Values} → Proper vs → Visits F vs ws → Quiet ws F → closing F vs ≡ closed ws
 visits-closed {F} {vs} {ws} p v q =
-    closes-unique refl (follows-refl F vs) (follows-refl F vs) (closing F vs) (closed ws) (closing-closes F vs p) (visits-derived p v, q)
+    closes-unique refl (follows-refl F vs) (follows-refl F vs) (closing F vs) (closed ws)
+    (closing-closes F vs p) (visits-derived p v, q)
 
-pub visits-clash : {F : List Clause} {vs ws : Values} {cl : Clause} → Proper vs → Visits F vs ws → In cl F → stateOf ws cl ≡ False → closing F vs ≡ clash
+pub visits-clash : {F : List Clause} {vs ws : Values} {cl : Clause} → Proper vs → Visits F vs ws → In cl F → stateOf ws cl ≡ False
+    → closing F vs ≡ clash
 visits-clash {F} {vs} p v i e =
-    closes-unique refl (follows-refl F vs) (follows-refl F vs) (closing F vs) clash (closing-closes F vs p) (visits-refuted p v i e)
+    closes-unique refl (follows-refl F vs) (follows-refl F vs) (closing F vs) clash
+    (closing-closes F vs p) (visits-refuted p v i e)
 
 -- ---- any order of clauses, and of literals in them
 

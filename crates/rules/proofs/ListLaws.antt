@@ -9,7 +9,7 @@
 --   keep-sound, keep-complete     the kept are the elements that pass
 --   any-append, all-append, all-append-of, keep-append, count-append, sumOf-append     over `++`
 --   any-cong, all-cong, keep-cong, count-cong, sumOf-cong     functions that agree on the elements
---   length-keep, count-le, count-pos, count-split, count-zero     how many pass
+--   length-keep, count-le, count-pos, count-split, count-zero, count-of-none     how many pass
 --   in-getD, getD-in, getD-default     elements and indices; inside a list the default does not matter
 --   eqz-sound, eqz-refl, eqz-complete, eqz-other     two whole numbers are the same
 --   eqs-sound, eqs-refl           two lists of numbers are the same
@@ -61,7 +61,8 @@ module _ {A : Type 0} where
   any-sound p [] h = absurd (never h refl)
   any-sound p (x ∷ xs) h = go (p x) refl h (any-sound p xs)
     where
-      go : (b : Bool) → p x ≡ b → any p (x ∷ xs) ≡ true → (any p xs ≡ true → (y : A) × In y xs × (p y ≡ true)) → (y : A) × In y (x ∷ xs) × (p y ≡ true)
+      go : (b : Bool) → p x ≡ b → any p (x ∷ xs) ≡ true → (any p xs ≡ true → (y : A) × In y xs × (p y ≡ true))
+          → (y : A) × In y (x ∷ xs) × (p y ≡ true)
       go true e h ih = (x, List·Memᴰ·head refl, e)
       go false e h ih = let (y, i, r) = ih (rw e at h) in (y, List·Memᴰ·tail i, r)
 
@@ -90,7 +91,8 @@ module _ {A : Type 0} where
   all-false p [] h = absurd (never refl h)
   all-false p (x ∷ xs) h = go (p x) refl h (all-false p xs)
     where
-      go : (b : Bool) → p x ≡ b → all p (x ∷ xs) ≡ false → (all p xs ≡ false → (y : A) × In y xs × (p y ≡ false)) → (y : A) × In y (x ∷ xs) × (p y ≡ false)
+      go : (b : Bool) → p x ≡ b → all p (x ∷ xs) ≡ false → (all p xs ≡ false → (y : A) × In y xs × (p y ≡ false))
+          → (y : A) × In y (x ∷ xs) × (p y ≡ false)
       go false e h ih = (x, List·Memᴰ·head refl, e)
       go true e h ih = let (y, i, r) = ih (rw e at h) in (y, List·Memᴰ·tail i, r)
 
@@ -100,7 +102,8 @@ module _ {A : Type 0} where
   keep-sound p [] i = absurd (List·Memᴰ·not-nil i)
   keep-sound p {x} (y ∷ ys) i = go (p y) refl i (keep-sound p ys)
     where
-      go : (b : Bool) → p y ≡ b → In x (keepIf b y (keep p ys)) → (In x (keep p ys) → In x ys × (p x ≡ true)) → In x (y ∷ ys) × (p x ≡ true)
+      go : (b : Bool) → p y ≡ b → In x (keepIf b y (keep p ys)) → (In x (keep p ys) → In x ys × (p x ≡ true))
+          → In x (y ∷ ys) × (p x ≡ true)
       go true e (List·Memᴰ·head q) ih = (List·Memᴰ·head q, cc)
       go true e (List·Memᴰ·tail j) ih = (List·Memᴰ·tail (ih j .0), ih j .1)
       go false e j ih = (List·Memᴰ·tail (ih j .0), ih j .1)
@@ -138,7 +141,8 @@ module _ {A : Type 0} where
   keep-append p [] ys = refl
   keep-append p (x ∷ xs) ys = go (p x) (keep-append p xs ys)
     where
-      go : (b : Bool) → keep p (xs ++ ys) ≡ keep p xs ++ keep p ys → keepIf b x (keep p (xs ++ ys)) ≡ keepIf b x (keep p xs) ++ keep p ys
+      go : (b : Bool) → keep p (xs ++ ys) ≡ keep p xs ++ keep p ys
+          → keepIf b x (keep p (xs ++ ys)) ≡ keepIf b x (keep p xs) ++ keep p ys
       go true h = rw h
       go false h = h
 
@@ -146,7 +150,8 @@ module _ {A : Type 0} where
   count-append p [] ys = omega arith
   count-append p (x ∷ xs) ys = go (p x) (count-append p xs ys)
     where
-      go : (b : Bool) → count p (xs ++ ys) ≡ count p xs + count p ys → countIf b (count p (xs ++ ys)) ≡ countIf b (count p xs) + count p ys
+      go : (b : Bool) → count p (xs ++ ys) ≡ count p xs + count p ys
+          → countIf b (count p (xs ++ ys)) ≡ countIf b (count p xs) + count p ys
       go true h = omega arith
       go false h = h
 
@@ -191,7 +196,8 @@ module _ {A : Type 0} where
   count-split p [] = refl
   count-split p (x ∷ xs) = go (p x) (count-split p xs)
     where
-      go : (b : Bool) → count p xs + count (λ x. not (p x)) xs ≡ length xs → countIf b (count p xs) + countIf (not b) (count (λ x. not (p x)) xs) ≡ suc (length xs)
+      go : (b : Bool) → count p xs + count (λ x. not (p x)) xs ≡ length xs
+          → countIf b (count p xs) + countIf (not b) (count (λ x. not (p x)) xs) ≡ suc (length xs)
       go true h = omega arith
       go false h = omega arith
 
@@ -208,6 +214,11 @@ module _ {A : Type 0} where
 
   pub count-zero : (p : A → Bool) (xs : List A) → count p xs ≡ 0 → any p xs ≡ false
   count-zero p xs h = any-of-none p xs (λ x i. not-true (p x) (λ e. absurd (omega (arith, count-pos p i e))))
+
+  pub count-of-none : (p : A → Bool) (xs : List A) → ((x : A) → In x xs → p x ≡ false) → count p xs ≡ 0
+  count-of-none p [] h = refl
+  count-of-none p (x ∷ xs) h =
+      rw (h x (List·Memᴰ·head refl)) (count-of-none p xs (λ y i. h y (List·Memᴰ·tail i)))
 
   -- ---- elements and indices
 

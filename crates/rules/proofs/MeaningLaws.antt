@@ -20,20 +20,20 @@
 -- Assumes nothing.
 use mathlib.Core.Path.{_≡_, refl, sym, _∙_, ap}
 use mathlib.Core.Logic.{_≢_, _⊎_, inl, inr, _↔_}
-use mathlib.Core.Bool.{Bool, true, false, _&&_}
+use mathlib.Core.Bool.{true, false}
 use mathlib.Core.List.{List, [], _∷_, _++_, List·Memᴰ·append-cases, Memᴰ·append-left, Memᴰ·append-right}
-use Prim.Native.Nat.{ℕ, zero, suc, _≤_, _<_}
+use Prim.Native.Nat.{ℕ, zero, suc, _≤_}
 use native.Mathlib.Omega.{arith}
 use lib.IntN.{ℤ, pos, negsuc}
 use lib.Dec.{eqb}
-use lib.ListN.{getD, set, length, replicate}
+use lib.ListN.{set, length, replicate}
 use lib.Seq.{ext-getD}
 use borrow.Author.Tests.{eqb-true, eqb-false, eq-eqb, ne-eqb}
-use Rattle.rules.specs.Lists.{In, any, all}
+use Rattle.rules.specs.Lists.{In}
 use Rattle.rules.specs.Meaning.{Clause, Values, indexOf, valueAt, trueByte, falseByte, isTrue, isUnset, assign, hasTrue, satisfies, Total}
 use Rattle.rules.specs.Closing.{unsets}
 use Rattle.rules.specs.Models.{Extends, Covers}
-use Rattle.rules.proofs.ListLaws.{never, same-test, and-left, and-right, any-sound, any-complete, all-sound, all-complete, all-append, all-append-of}
+use Rattle.rules.proofs.ListLaws.{same-test, and-left, and-right, any-sound, any-complete, all-sound, all-complete, all-append, all-append-of}
 
 -- ---- bytes
 
@@ -72,7 +72,8 @@ valueAt-set-same (x ∷ vs) zero b z = refl
 valueAt-set-same (x ∷ vs) (suc i) b z = valueAt-set-same vs i b z
 
 -- what holds of the stored byte, and of the rest, holds after the store
-pub set-elim : (P : ℕ → ℕ → Type 0) (vs : Values) (i b : ℕ) → P i b → ((j : ℕ) → P j (valueAt vs j)) → (j : ℕ) → P j (valueAt (set vs i b) j)
+pub set-elim : (P : ℕ → ℕ → Type 0) (vs : Values) (i b : ℕ) → P i b → ((j : ℕ) → P j (valueAt vs j)) → (j : ℕ)
+    → P j (valueAt (set vs i b) j)
 set-elim P vs i b h k j = go (set-cases vs i b j)
   where
     go : ((j ≡ i) × (valueAt (set vs i b) j ≡ b)) ⊎ (valueAt (set vs i b) j ≡ valueAt vs j) → P j (valueAt (set vs i b) j)
@@ -127,7 +128,8 @@ set-extends {vs} {m} i b x w =
 pub assign-extends : {vs m : Values} (l : ℤ) → Extends vs m → isTrue m l ≡ true → Extends (assign vs l) m
 assign-extends l x h = set-extends (indexOf l) (trueByte l) x (eqb-true _ _ h)
 
-pub valueAt-set-extends : (vs : Values) (i b : ℕ) → valueAt vs i ≡ 0 → b ≢ 0 → (m : Values) → Extends (set vs i b) m → valueAt m i ≡ b
+pub valueAt-set-extends : (vs : Values) (i b : ℕ) → valueAt vs i ≡ 0 → b ≢ 0 → (m : Values) → Extends (set vs i b) m
+    → valueAt m i ≡ b
 valueAt-set-extends vs i b z n m x =
     let e : valueAt (set vs i b) i ≡ b = valueAt-set-same vs i b z in
     x .agrees i (λ q. n (sym e ∙ q)) ∙ e
@@ -147,7 +149,8 @@ isTrue-frame l x h = ap (λ (b : ℕ). eqb b (trueByte l)) (x .agrees (indexOf l
 pub isTrue-mono : {vs m : Values} (l : ℤ) → Extends vs m → isTrue vs l ≡ true → isTrue m l ≡ true
 isTrue-mono {vs} {m} l x h = isTrue-frame l x (isUnset-of-isTrue vs l h) ∙ h
 
-pub false-byte : {vs : Values} (l : ℤ) → Proper vs → isTrue vs l ≡ false → isUnset vs l ≡ false → valueAt vs (indexOf l) ≡ falseByte l
+pub false-byte : {vs : Values} (l : ℤ) → Proper vs → isTrue vs l ≡ false → isUnset vs l ≡ false
+    → valueAt vs (indexOf l) ≡ falseByte l
 false-byte {vs} l p f u = go l (valueAt vs (indexOf l)) (eqb-false _ _ f) (byte-cases _ (eqb-false _ _ u) (p .small (indexOf l)))
   where
     go : (k : ℤ) (b : ℕ) → b ≢ trueByte k → (b ≡ 1) ⊎ (b ≡ 2) → b ≡ falseByte k
@@ -156,7 +159,8 @@ false-byte {vs} l p f u = go l (valueAt vs (indexOf l)) (eqb-false _ _ f) (byte-
     go (negsuc n) b h (inl e) = absurd (h e)
     go (negsuc n) b h (inr e) = e
 
-pub not-true-of-false : (vs : Values) (l : ℤ) → valueAt vs (indexOf l) ≡ falseByte l → (isTrue vs l ≡ false) × (isUnset vs l ≡ false)
+pub not-true-of-false : (vs : Values) (l : ℤ) → valueAt vs (indexOf l) ≡ falseByte l
+    → (isTrue vs l ≡ false) × (isUnset vs l ≡ false)
 not-true-of-false vs l e = go l (valueAt vs (indexOf l)) e
   where
     go : (k : ℤ) (b : ℕ) → b ≡ falseByte k → (eqb b (trueByte k) ≡ false) × (eqb b 0 ≡ false)
@@ -172,7 +176,8 @@ hasTrue-mono {vs} {m} cl x h =
 pub satisfies-mono : {vs m : Values} (F : List Clause) → Extends vs m → satisfies vs F ≡ true → satisfies m F ≡ true
 satisfies-mono {vs} {m} F x h = all-complete (hasTrue m) F (λ cl i. hasTrue-mono cl x (all-sound (hasTrue vs) h i))
 
-pub satisfies-append : (m : Values) (F G : List Clause) → satisfies m F ≡ true → satisfies m G ≡ true → satisfies m (F ++ G) ≡ true
+pub satisfies-append : (m : Values) (F G : List Clause) → satisfies m F ≡ true → satisfies m G ≡ true
+    → satisfies m (F ++ G) ≡ true
 satisfies-append m F G h k = all-append-of (hasTrue m) F G h k
 
 pub satisfies-left : (m : Values) (F G : List Clause) → satisfies m (F ++ G) ≡ true → satisfies m F ≡ true

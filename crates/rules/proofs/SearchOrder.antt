@@ -4,15 +4,15 @@
 --
 --   callOn-same                   calls are the same if the closings are, at the start and at all that is tried
 --   callOn-order                  clauses that are the same as sets of literals give the same call
---   units-sound, units-complete   the clauses of `units` are the literals that are true
---   closing-units, callOn-units   the page's form of a call: forced literals as clauses or as values
+--   closing-units                 closing forced literals as clauses, or starting from them as values, is the same
+--   callOn-units                  and so is the call: the page's form of it
 --
 -- Assumes nothing.
-use mathlib.Core.Path.{_≡_, refl, sym, _∙_, ap}
+use mathlib.Core.Path.{_≡_, refl, sym, _∙_}
 use mathlib.Core.Logic.{_≢_, _⊎_, inl, inr}
-use mathlib.Core.Bool.{Bool, true, false}
-use mathlib.Core.List.{List, [], _∷_, _++_, List·Memᴰ·head, List·Memᴰ·tail, List·Memᴰ·not-nil, List·Memᴰ·eq-of-singleton, List·Memᴰ·append-cases, Memᴰ·append-left, Memᴰ·append-right}
-use Prim.Native.Nat.{ℕ, zero, suc, _+_, _≤_, _<_}
+use mathlib.Core.Bool.{true, false}
+use mathlib.Core.List.{List, [], _∷_, _++_, List·Memᴰ·head, List·Memᴰ·eq-of-singleton, List·Memᴰ·append-cases, Memᴰ·append-left, Memᴰ·append-right}
+use Prim.Native.Nat.{ℕ, _<_}
 use native.Mathlib.Omega.{arith}
 use lib.Dec.{ltb}
 use lib.IntN.{ℤ, pos, negsuc}
@@ -23,24 +23,30 @@ use Rattle.rules.specs.Meaning.{Clause, Values, indexOf, valueAt, trueBy
 use Rattle.rules.specs.Closing.{closing, unsets}
 use Rattle.rules.specs.Models.{Extends, Covers}
 use Rattle.rules.specs.Search.{Call, onClosed, callOn}
-use Rattle.rules.specs.Units.{unitAt, units}
+use Rattle.rules.specs.Units.{units}
 use Rattle.rules.proofs.ListLaws.{both, never, eqz-sound, eqz-complete}
 use Rattle.rules.proofs.MeaningLaws.{Proper, trueByte-set, extends-refl, extends-trans, isTrue-mono, false-byte, blank-proper, blank-extends}
-use Rattle.rules.proofs.ClosingOrder.{Derived, given, last, derived-given, Refuted, Follows, closing-same, closing-order}
+use Rattle.rules.proofs.ClosingOrder.{Derived, given, last, derived-given, Refuted, closing-same, closing-order}
 use Rattle.rules.proofs.UnitsLaws.{LitOf, units-complete, units-true}
 use Rattle.rules.proofs.SearchLaws.{Tried, onClosed-cong, callOn-rec, callOn-next}
 
 -- ---- calls are the same if the closings are
 
-pub callOn-same : (budget : ℕ) (F G : List Clause) (Q : Values → Type 0) → ((vs ds : Values) → Q vs → Tried vs ds → Q ds) → ((vs : Values) → Q vs → closing F vs ≡ closing G vs) → (vs : Values) (t : ℕ) → Q vs → callOn budget F vs t ≡ callOn budget G vs t
+pub callOn-same : (budget : ℕ) (F G : List Clause) (Q : Values → Type 0) → ((vs ds : Values) → Q vs → Tried vs ds → Q ds)
+    → ((vs : Values) → Q vs → closing F vs ≡ closing G vs) → (vs : Values) (t : ℕ) → Q vs
+    → callOn budget F vs t ≡ callOn budget G vs t
 callOn-same budget F G Q down closings vs t q = callOn-rec budget G (λ ws f. Q ws → (u : ℕ) → callOn budget F ws u ≡ f u) step vs q t
   where
-    step : (ws : Values) (go-on : Values → ℕ → Call) → ((ds : Values) → unsets ds < unsets ws → Q ds → (u : ℕ) → callOn budget F ds u ≡ go-on ds u) → Q ws → (u : ℕ) → callOn budget F ws u ≡ onClosed (closing G ws) budget go-on u
+    step : (ws : Values) (go-on : Values → ℕ → Call)
+        → ((ds : Values) → unsets ds < unsets ws → Q ds → (u : ℕ) → callOn budget F ds u ≡ go-on ds u) → Q ws → (u : ℕ)
+        → callOn budget F ws u ≡ onClosed (closing G ws) budget go-on u
     step ws go-on ih q u =
         callOn-next budget F ws u ∙
-        rw (closings ws q) (onClosed-cong budget G ws (λ ds n. callOn budget F ds n) go-on (λ ds n d. ih ds (d .fewer) (down ws ds q d) n) u)
+        rw (closings ws q)
+        (onClosed-cong budget G ws (λ ds n. callOn budget F ds n) go-on (λ ds n d. ih ds (d .fewer) (down ws ds q d) n) u)
 
-pub callOn-order : (budget : ℕ) {F G : List Clause} → Covers F G → Covers G F → (vs : Values) (t : ℕ) → Proper vs → callOn budget F vs t ≡ callOn budget G vs t
+pub callOn-order : (budget : ℕ) {F G : List Clause} → Covers F G → Covers G F → (vs : Values) (t : ℕ) → Proper vs
+    → callOn budget F vs t ≡ callOn budget G vs t
 callOn-order budget {F} {G} c d = callOn-same budget F G Proper (λ vs ds p w. w .proper p) (λ vs p. closing-order c d vs p)
 
 -- ---- forced literals as clauses, or as values
@@ -54,13 +60,15 @@ trueByte-other (pos n) = omega arith
 trueByte-other (negsuc n) = omega arith
 
 -- a byte that follows where the start has another refutes: the clause that it follows by has all its literals false
-opposed : {F : List Clause} {vs : Values} → Proper vs → {i b : ℕ} → Derived F vs i b → valueAt vs i ≢ 0 → valueAt vs i ≢ b → Refuted F vs
+opposed : {F : List Clause} {vs : Values} → Proper vs → {i b : ℕ} → Derived F vs i b → valueAt vs i ≢ 0 → valueAt vs i ≢ b
+    → Refuted F vs
 opposed p (given i h) s n = absurd (n refl)
 opposed {F} {vs} p (last cl l i j f) s n = record { clause = cl; is-in = i; all-false = λ k h. go k h (both (eqz k l)) }
   where
     go : (k : ℤ) → In k cl → (eqz k l ≡ true) ⊎ (eqz k l ≡ false) → Derived F vs (indexOf k) (falseByte k)
     go k h (inl e) =
-        rw (eqz-sound k l e) (derived-given F (indexOf l) (falseByte l) (false-byte l p (ne-eqb _ _ n) (ne-eqb _ _ s)) (falseByte-set l))
+        rw (eqz-sound k l e)
+        (derived-given F (indexOf l) (falseByte l) (false-byte l p (ne-eqb _ _ n) (ne-eqb _ _ s)) (falseByte-set l))
     go k h (inr e) = f k h e
 
 -- from vs the clauses of U, of one literal each, make true what is set in ws
@@ -106,7 +114,8 @@ module _ (F U G : List Clause) (vs ws : Values) (m : Makes F U G vs ws) where
   derived-less (given i h) = derived-given (F ++ G) i (valueAt vs i) (m .ext .agrees i h) h
   derived-less (last cl l i j f) = go (in-cases i) (λ k h e. derived-less (f k h e))
     where
-      go : In cl (F ++ G) ⊎ In cl U → ((k : ℤ) → In k cl → eqz k l ≡ false → Derived (F ++ G) ws (indexOf k) (falseByte k)) → Derived (F ++ G) ws (indexOf l) (trueByte l)
+      go : In cl (F ++ G) ⊎ In cl U → ((k : ℤ) → In k cl → eqz k l ≡ false → Derived (F ++ G) ws (indexOf k) (falseByte k))
+          → Derived (F ++ G) ws (indexOf l) (trueByte l)
       go (inl h) g = last cl l h j g
       go (inr h) g = derived-given (F ++ G) (indexOf l) (trueByte l) (one-true l h j) (trueByte-set l)
 
@@ -161,27 +170,33 @@ makes-blank F G f p =
         rw (← s .byte, ← s .index)
         (last (l ∷ []) l j (List·Memᴰ·head refl) (λ k x e. absurd (never (eqz-complete k l (List·Memᴰ·eq-of-singleton x)) e)))
 
-    go : (i : ℕ) → valueAt f i ≢ 0 → (ltb i (length f) ≡ true) ⊎ (ltb i (length f) ≡ false) → Derived (F ++ units 0 f ++ G) blank i (valueAt f i)
+    go : (i : ℕ) → valueAt f i ≢ 0 → (ltb i (length f) ≡ true) ⊎ (ltb i (length f) ≡ false)
+        → Derived (F ++ units 0 f ++ G) blank i (valueAt f i)
     go i h (inl t) =
         let (l, j, s) = units-complete 0 f i p (ltb-true i (length f) t) h in
         by-unit l (Memᴰ·append-left G (Memᴰ·append-right F j)) (record { index = omega (arith, s .index); byte = s .byte })
-    go i h (inr t) = derived-given (F ++ units 0 f ++ G) i (valueAt f i) (outside ∙ sym (List·getD-eq-default f 1 (ltb-false i (length f) t))) h
+    go i h (inr t) =
+        derived-given (F ++ units 0 f ++ G) i (valueAt f i) (outside ∙ sym (List·getD-eq-default f 1 (ltb-false i (length f) t))) h
       where
         outside : valueAt blank i ≡ 1
         outside = List·getD-eq-default blank 1 (omega (arith, length-replicate {A = ℕ} (length f) 0, ltb-false i (length f) t))
 
-pub closing-units : (F G : List Clause) (f : Values) → Proper f → closing (F ++ units 0 f ++ G) (replicate (length f) 0) ≡ closing (F ++ G) f
+pub closing-units : (F G : List Clause) (f : Values) → Proper f
+    → closing (F ++ units 0 f ++ G) (replicate (length f) 0) ≡ closing (F ++ G) f
 closing-units F G f p =
     closing-makes F (units 0 f) G (replicate (length f) 0) f (makes-blank F G f p) (blank-proper (length f)) p
 
-pub callOn-units : (budget : ℕ) (F G : List Clause) (f : Values) (t : ℕ) → Proper f → callOn budget (F ++ units 0 f ++ G) (replicate (length f) 0) t ≡ callOn budget (F ++ G) f t
+pub callOn-units : (budget : ℕ) (F G : List Clause) (f : Values) (t : ℕ) → Proper f
+    → callOn budget (F ++ units 0 f ++ G) (replicate (length f) 0) t ≡ callOn budget (F ++ G) f t
 callOn-units budget F G f t p =
     callOn-next budget (F ++ units 0 f ++ G) (replicate (length f) 0) t ∙
     rw (closing-units F G f p)
-    (onClosed-cong budget (F ++ G) f (λ ds u. callOn budget (F ++ units 0 f ++ G) ds u) (λ ds u. callOn budget (F ++ G) ds u) (λ ds u d. below ds u (d .ext, d .proper p)) t) ∙
+    (onClosed-cong budget (F ++ G) f (λ ds u. callOn budget (F ++ units 0 f ++ G) ds u) (λ ds u. callOn budget (F ++ G) ds u)
+    (λ ds u d. below ds u (d .ext, d .proper p)) t) ∙
     sym (callOn-next budget (F ++ G) f t)
   where
-    below : (ds : Values) (u : ℕ) → Extends f ds × Proper ds → callOn budget (F ++ units 0 f ++ G) ds u ≡ callOn budget (F ++ G) ds u
+    below : (ds : Values) (u : ℕ) → Extends f ds × Proper ds
+        → callOn budget (F ++ units 0 f ++ G) ds u ≡ callOn budget (F ++ G) ds u
     below = callOn-same budget (F ++ units 0 f ++ G) (F ++ G) (λ ds. Extends f ds × Proper ds)
         (λ vs ds q w. (extends-trans (q .0) (w .ext), w .proper (q .1)))
         (λ ds q. closing-makes F (units 0 f) G ds ds (makes-above F G f ds p (q .0)) (q .1) (q .1))

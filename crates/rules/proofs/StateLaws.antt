@@ -62,7 +62,8 @@ means vs cl = go (hasTrue vs cl) (keep (isUnset vs) cl) refl refl
     same l us h k (List·Memᴰ·head q) = q
     same l us h k (List·Memᴰ·tail j) = sym (eqz-sound l k (all-sound (eqz l) h j))
 
-    one : (l : ℤ) (us : List ℤ) (b : Bool) → hasTrue vs cl ≡ false → keep (isUnset vs) cl ≡ l ∷ us → all (eqz l) us ≡ b → Means vs cl (unitIf b l)
+    one : (l : ℤ) (us : List ℤ) (b : Bool) → hasTrue vs cl ≡ false → keep (isUnset vs) cl ≡ l ∷ us → all (eqz l) us ≡ b
+        → Means vs cl (unitIf b l)
     one l us true n e h =
         let (i, u) = kept e l (List·Memᴰ·head refl) in
         record { none-true = n; is-in = i; unset = u; only = λ k j v. same l us h k (rw e at (keep-complete (isUnset vs) j v)) }
@@ -75,7 +76,10 @@ means vs cl = go (hasTrue vs cl) (keep (isUnset vs) cl) refl refl
     go : (b : Bool) (us : List ℤ) → hasTrue vs cl ≡ b → keep (isUnset vs) cl ≡ us → Means vs cl (stateBy b us)
     go true us t e = t
     go false [] t e =
-        record { none-true = t; none-unset = λ k i. not-true (isUnset vs k) (λ u. List·Memᴰ·not-nil (rw e at (keep-complete (isUnset vs) i u))) }
+        record {
+          none-true = t;
+          none-unset = λ k i. not-true (isUnset vs k) (λ u. List·Memᴰ·not-nil (rw e at (keep-complete (isUnset vs) i u)));
+        }
     go false (l ∷ us) t e = one l us (all (eqz l) us) t e refl
 
 pub state-unique : (vs : Values) (cl : Clause) (s : ClauseState) → Means vs cl s → stateOf vs cl ≡ s
@@ -83,7 +87,9 @@ state-unique vs cl s m = go (stateOf vs cl) s (means vs cl) m
   where
     one-two : (l : ℤ) → OneUnset vs cl l → TwoUnset vs cl → ⊥
     one-two l o w =
-        never (eqz-complete (w .one) (w .two) (o .only (w .one) (w .one-in) (w .one-unset) ∙ sym (o .only (w .two) (w .two-in) (w .two-unset)))) (w .differ)
+        let a : w .one ≡ l = o .only (w .one) (w .one-in) (w .one-unset) in
+        let b : w .two ≡ l = o .only (w .two) (w .two-in) (w .two-unset) in
+        never (eqz-complete (w .one) (w .two) (a ∙ sym b)) (w .differ)
 
     go : (r s : ClauseState) → Means vs cl r → Means vs cl s → r ≡ s
     go False False m n = refl
@@ -106,7 +112,8 @@ state-unique vs cl s m = go (stateOf vs cl) s (means vs cl) m
 -- ---- values that extend
 
 -- what is set in a clause with no true literal is not true in values that extend
-not-true-after : {vs m : Values} {cl : Clause} (k : ℤ) → Extends vs m → hasTrue vs cl ≡ false → In k cl → isUnset vs k ≡ false → isTrue m k ≡ true → ⊥
+not-true-after : {vs m : Values} {cl : Clause} (k : ℤ) → Extends vs m → hasTrue vs cl ≡ false → In k cl → isUnset vs k ≡ false
+    → isTrue m k ≡ true → ⊥
 not-true-after {vs} k x n i u t = never (sym (isTrue-frame k x u) ∙ t) (none-of-any (isTrue vs) n i)
 
 pub unit-sound : {vs m : Values} (cl : Clause) (l : ℤ) → Extends vs m → hasTrue m cl ≡ true → OneUnset vs cl l → isTrue m l ≡ true

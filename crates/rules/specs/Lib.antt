@@ -12,6 +12,7 @@ pub mod Search
 pub mod Units
 pub mod Run
 pub mod Answer
+pub mod RunRefusals
 pub mod Log
 pub mod Models
 pub mod Printed

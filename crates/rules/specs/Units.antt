@@ -2,7 +2,7 @@
 -- starts its calls from them as values instead; proofs/SearchOrder shows that the calls are the same. Assumes nothing.
 use mathlib.Core.List.{List, [], _∷_}
 use Prim.Native.Nat.{ℕ, zero, suc}
-use lib.IntN.{ℤ, pos, negsuc}
+use lib.IntN.{pos, negsuc}
 use Rattle.rules.specs.Meaning.{Clause, Values}
 
 -- in front of cls, the one-literal clause by which the variable at an index has a byte: 1 false, 2 true; none for an unset variable

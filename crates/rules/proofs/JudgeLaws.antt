@@ -1,0 +1,226 @@
+-- The judgement of tokens (specs/Reading), step by step: a token passes or stops the reading, and never both. Tokens that pass are
+-- those with nothing to refuse (specs/Refusals).
+--
+--   at-most                       an order is decided
+--   Fits, Passes                  tokens with nothing to refuse, one after the other
+--   fine-of-passes, passes-of-fine, count-of-passes     they are those of specs/Refusals, and complete C clauses at most
+--   Stop                          why a token is refused: 5, 6, 7, 8
+--   Stopped, tokens-cases         all tokens pass, or one is the first to be refused
+--   withEntries, withEntries-refused, withEntries-accepted     entries in front of what is judged
+--   judgeTokens-passes, judgeTokens-end, judgeTokens-stopped     what the judgement is in each case
+--
+-- Assumes nothing.
+use mathlib.Core.Path.{_≡_, refl, sym, _∙_, ap, ap₂, subst₂}
+use mathlib.Core.Logic.{_⊎_, inl, inr}
+use mathlib.Core.Bool.{Bool, true, false, _&&_, _||_}
+use mathlib.Core.List.{List, [], _∷_, _++_, append-nil, List·Memᴰ·head, List·Memᴰ·tail, List·Memᴰ·not-nil}
+use mathlib.Core.Option.{Option, none, some}
+use Prim.Native.Nat.{ℕ, zero, suc, _+_, _≤_, _<_}
+use native.Mathlib.Omega.{arith}
+use lib.Dec.{leb, ltb}
+use lib.IntN.{ℤ, pos}
+use lib.ListN.{length}
+use borrow.Author.Tests.{leb-true, leb-false, le-leb, lt-leb, lt-ltb, le-ltb}
+use Rattle.rules.specs.declared.ReadAnswer.{ReadAnswer}
+use Rattle.rules.specs.Lists.{In, count, countIf}
+use Rattle.rules.specs.Numbers.{maxEntries}
+use Rattle.rules.specs.Meaning.{varOf}
+use Rattle.rules.specs.Text.{Piece, Sizes, entryOf}
+use Rattle.rules.specs.Reading.{Judged, accepted, refused, isZero, withEntry, judgeToken, judgeEnd, judgeTokens}
+use Rattle.rules.specs.Grammar.{Token}
+use Rattle.rules.specs.Refusals.{Say, nothing, one-more, Fine}
+use Rattle.rules.proofs.CutLaws.{nil-not-append}
+use Rattle.rules.proofs.HeaderLaws.{not-none, entry-sound, entry-complete, entry-none}
+
+pub at-most : (a b : ℕ) → (a ≤ b) ⊎ (b < a)
+at-most a b = go (leb a b) refl
+  where
+    go : (t : Bool) → leb a b ≡ t → (a ≤ b) ⊎ (b < a)
+    go true e = inl (leb-true a b e)
+    go false e = inr (leb-false a b e)
+
+countIf-add : (b : Bool) (k n : ℕ) → countIf b k + n ≡ k + countIf b n
+countIf-add true k n = omega arith
+countIf-add false k n = refl
+
+countIf-below : (b : Bool) (k : ℕ) {n : ℕ} → k < n → countIf b k ≤ n
+countIf-below true k h = h
+countIf-below false k h = omega arith
+
+-- ---- tokens that pass, with k clauses complete and n entries so far
+
+pub record Fits (s : Sizes) (k n : ℕ) (l : ℤ) : Type 0 where
+  pub not-behind : k < s .clauses
+  pub up-to : varOf l ≤ s .vars
+  pub most : n < maxEntries
+
+pub data Passes (s : Sizes) : ℕ → ℕ → List Piece → List ℤ → Type 0 where
+  passed : {k n : ℕ} → Passes s k n [] []
+  pass : {k n : ℕ} {t : Piece} {ts : List Piece} {l : ℤ} {es : List ℤ} → Token (t .bytes) l → Fits s k n l → Passes s (countIf (isZero l) k) (suc n) ts es → Passes s k n (t ∷ ts) (l ∷ es)
+
+module _ {s : Sizes} where
+  say-of-passes : {k n : ℕ} {ts : List Piece} {es : List ℤ} → Passes s k n ts es → Say ts es
+  say-of-passes passed = nothing
+  say-of-passes (pass w f p) = one-more w (say-of-passes p)
+
+  not-behind-of-passes : {k n : ℕ} {ts : List Piece} {es : List ℤ} → Passes s k n ts es → (front : List ℤ) (l : ℤ) (back : List ℤ) → es ≡ front ++ l ∷ back → k + count isZero front < s .clauses
+  not-behind-of-passes passed front l back e = absurd (nil-not-append front l back e)
+  not-behind-of-passes (pass w f p) [] l back e = omega (arith, f .not-behind)
+  not-behind-of-passes {k} (pass {l = x} w f p) (y ∷ front) l back e =
+      let same : x ≡ y = cc in
+      omega (arith, not-behind-of-passes p front l back (cc), countIf-add (isZero x) k (count isZero front), ap (λ (z : ℤ). countIf (isZero z) (count isZero front)) same)
+
+  up-to-of-passes : {k n : ℕ} {ts : List Piece} {es : List ℤ} → Passes s k n ts es → (l : ℤ) → In l es → varOf l ≤ s .vars
+  up-to-of-passes passed l i = absurd (List·Memᴰ·not-nil i)
+  up-to-of-passes (pass w f p) l (List·Memᴰ·head e) = rw e (f .up-to)
+  up-to-of-passes (pass w f p) l (List·Memᴰ·tail i) = up-to-of-passes p l i
+
+  most-of-passes : {k n : ℕ} {ts : List Piece} {es : List ℤ} → Passes s k n ts es → n ≤ maxEntries → n + length es ≤ maxEntries
+  most-of-passes passed h = omega arith
+  most-of-passes (pass w f p) h = omega (arith, most-of-passes p (f .most))
+
+  pub count-of-passes : {k n : ℕ} {ts : List Piece} {es : List ℤ} → Passes s k n ts es → k ≤ s .clauses → k + count isZero es ≤ s .clauses
+  count-of-passes passed h = omega arith
+  count-of-passes {k} (pass {l} {es} w f p) h =
+      omega (arith, count-of-passes p (countIf-below (isZero l) k (f .not-behind)), countIf-add (isZero l) k (count isZero es))
+
+  pub fine-of-passes : {ts : List Piece} {es : List ℤ} → Passes s 0 0 ts es → Fine s ts es
+  fine-of-passes p =
+      record {
+        say = say-of-passes p;
+        not-behind = λ f l b e. omega (arith, not-behind-of-passes p f l b e);
+        up-to = up-to-of-passes p;
+        most = omega (arith, most-of-passes p (omega arith));
+      }
+
+  passes-of-say : {k n : ℕ} {ts : List Piece} {es : List ℤ} → Say ts es → ((front : List ℤ) (l : ℤ) (back : List ℤ) → es ≡ front ++ l ∷ back → k + count isZero front < s .clauses) → ((l : ℤ) → In l es → varOf l ≤ s .vars) → n + length es ≤ maxEntries → Passes s k n ts es
+  passes-of-say nothing f u m = passed
+  passes-of-say {k} {n} (one-more {l} {es} w h) f u m =
+      let fits : Fits s k n l = record { not-behind = omega (arith, f [] l es refl); up-to = u l (List·Memᴰ·head refl); most = omega arith } in
+      pass w fits
+      (passes-of-say h
+      (λ front x back e. omega (arith, countIf-add (isZero l) k (count isZero front), f (l ∷ front) x back (ap (λ (xs : List ℤ). l ∷ xs) e)))
+      (λ x i. u x (List·Memᴰ·tail i))
+      (omega arith))
+
+  pub passes-of-fine : {ts : List Piece} {es : List ℤ} → Fine s ts es → Passes s 0 0 ts es
+  passes-of-fine f =
+      passes-of-say {k = 0} {n = 0} (f .say) (λ front l back e. omega (arith, f .not-behind front l back e)) (f .up-to) (omega (arith, f .most))
+
+-- ---- a token that is refused, in the order 5, 6, 7, 8
+
+pub data Stop (s : Sizes) (k n : ℕ) (t : Piece) : ReadAnswer → Type 0 where
+  bad : ((l : ℤ) → Token (t .bytes) l → ⊥) → Stop s k n t (ReadAnswer.BadToken (t .at))
+  after-last : (l : ℤ) → Token (t .bytes) l → s .clauses ≤ k → Stop s k n t (ReadAnswer.TokenAfterLast (t .at))
+  above : (l : ℤ) → Token (t .bytes) l → k < s .clauses → s .vars < varOf l → Stop s k n t (ReadAnswer.VariableAbove (t .at))
+  over : (l : ℤ) → Token (t .bytes) l → k < s .clauses → varOf l ≤ s .vars → maxEntries ≤ n → Stop s k n t (ReadAnswer.EntryOver (t .at))
+
+-- the first token that is refused, behind tokens that say es
+pub record Stopped (s : Sizes) (k n : ℕ) (ts : List Piece) : Type 0 where
+  pub before : List Piece
+  pub token : Piece
+  pub after : List Piece
+  pub es : List ℤ
+  pub answer : ReadAnswer
+  pub tokens : ts ≡ before ++ token ∷ after
+  pub passes : Passes s k n before es
+  pub stop : Stop s (k + count isZero es) (n + length es) token answer
+
+module _ (s : Sizes) where
+  token-cases : (k n : ℕ) (t : Piece) → ((l : ℤ) × Token (t .bytes) l × Fits s k n l) ⊎ ((a : ReadAnswer) × Stop s k n t a)
+  token-cases k n t = go (entryOf (t .bytes)) refl
+    where
+      Cases : Type 0
+      Cases = ((l : ℤ) × Token (t .bytes) l × Fits s k n l) ⊎ ((a : ReadAnswer) × Stop s k n t a)
+
+      entries : (l : ℤ) → Token (t .bytes) l → k < s .clauses → varOf l ≤ s .vars → (maxEntries ≤ n) ⊎ (n < maxEntries) → Cases
+      entries l w h u (inl o) = inr (ReadAnswer.EntryOver (t .at), over l w h u o)
+      entries l w h u (inr m) = inl (l, w, record { not-behind = h; up-to = u; most = m })
+
+      vars : (l : ℤ) → Token (t .bytes) l → k < s .clauses → (varOf l ≤ s .vars) ⊎ (s .vars < varOf l) → Cases
+      vars l w h (inl u) = entries l w h u (at-most maxEntries n)
+      vars l w h (inr u) = inr (ReadAnswer.VariableAbove (t .at), above l w h u)
+
+      clauses : (l : ℤ) → Token (t .bytes) l → (s .clauses ≤ k) ⊎ (k < s .clauses) → Cases
+      clauses l w (inl h) = inr (ReadAnswer.TokenAfterLast (t .at), after-last l w h)
+      clauses l w (inr h) = vars l w h (at-most (varOf l) (s .vars))
+
+      go : (o : Option ℤ) → entryOf (t .bytes) ≡ o → Cases
+      go none e = inr (ReadAnswer.BadToken (t .at), bad (λ l w. not-none (entry-complete w) e))
+      go (some l) e = clauses l (entry-sound (t .bytes) e) (at-most (s .clauses) k)
+
+  pub tokens-cases : (k n : ℕ) (ts : List Piece) → ((es : List ℤ) × Passes s k n ts es) ⊎ Stopped s k n ts
+  tokens-cases k n [] = inl ([], passed)
+  tokens-cases k n (t ∷ ts) = go (token-cases k n t) (λ j. tokens-cases j (suc n) ts)
+    where
+      Cases : ℕ → ℕ → List Piece → Type 0
+      Cases k n ts = ((es : List ℤ) × Passes s k n ts es) ⊎ Stopped s k n ts
+
+      later : (l : ℤ) → Token (t .bytes) l → Fits s k n l → Cases (countIf (isZero l) k) (suc n) ts → Cases k n (t ∷ ts)
+      later l w f (inl p) = inl (l ∷ p .0, pass w f (p .1))
+      later l w f (inr d) =
+          inr (record {
+            before = t ∷ d .before;
+            token = d .token;
+            after = d .after;
+            es = l ∷ d .es;
+            answer = d .answer;
+            tokens = ap (λ (xs : List Piece). t ∷ xs) (d .tokens);
+            passes = pass w f (d .passes);
+            stop = subst₂ (λ (i j : ℕ). Stop s i j (d .token) (d .answer)) (countIf-add (isZero l) k (count isZero (d .es))) (omega arith) (d .stop);
+          })
+
+      go : ((l : ℤ) × Token (t .bytes) l × Fits s k n l) ⊎ ((a : ReadAnswer) × Stop s k n t a) → ((j : ℕ) → Cases j (suc n) ts) → Cases k n (t ∷ ts)
+      go (inl p) ih = later (p .0) (p .1) (p .2) (ih (countIf (isZero (p .0)) k))
+      go (inr q) ih =
+          inr (record {
+            before = [];
+            token = t;
+            after = ts;
+            es = [];
+            answer = q .0;
+            tokens = refl;
+            passes = passed;
+            stop = subst₂ (λ (i j : ℕ). Stop s i j t (q .0)) (omega arith) (omega arith) (q .1);
+          })
+
+-- ---- what the judgement is
+
+abbrev pub withEntries : List ℤ → Judged → Judged
+withEntries [] j = j
+withEntries (l ∷ es) j = withEntry l (withEntries es j)
+
+pub withEntries-refused : (es : List ℤ) (a : ReadAnswer) → withEntries es (refused a) ≡ refused a
+withEntries-refused [] a = refl
+withEntries-refused (l ∷ es) a = ap (withEntry l) (withEntries-refused es a)
+
+pub withEntries-accepted : (es : List ℤ) (s : Sizes) → withEntries es (accepted s []) ≡ accepted s es
+withEntries-accepted [] s = refl
+withEntries-accepted (l ∷ es) s = ap (withEntry l) (withEntries-accepted es s)
+
+module _ (s : Sizes) (end : ℕ) where
+  pub judgeTokens-passes : {k n : ℕ} {ts : List Piece} {es : List ℤ} (rest : List Piece) → Passes s k n ts es → judgeTokens s end k n (ts ++ rest) ≡ withEntries es (judgeTokens s end (k + count isZero es) (n + length es) rest)
+  unfolding judgeTokens
+  judgeTokens-passes {k} {n} rest passed = ap₂ (λ (i j : ℕ). judgeTokens s end i j rest) (omega arith) (omega arith)
+  judgeTokens-passes {k} {n} rest (pass {t} {ts} {l} {es} w f p) =
+      rw (entry-complete w, lt-leb (s .clauses) k (f .not-behind), le-ltb (s .vars) (varOf l) (f .up-to), lt-leb maxEntries n (f .most))
+      (ap (withEntry l) (judgeTokens-passes rest p ∙ ap₂ (λ (i j : ℕ). withEntries es (judgeTokens s end i j rest)) (countIf-add (isZero l) k (count isZero es)) (omega arith)))
+
+  judgeTokens-stop : {k n : ℕ} {t : Piece} {a : ReadAnswer} (ts : List Piece) → Stop s k n t a → judgeTokens s end k n (t ∷ ts) ≡ refused a
+  unfolding judgeTokens
+  judgeTokens-stop {k} {n} {t} ts (bad h) = rw (entry-none (t .bytes) h)
+  judgeTokens-stop {k} {n} {t} ts (after-last l w h) = rw (entry-complete w, le-leb (s .clauses) k h)
+  judgeTokens-stop {k} {n} {t} ts (above l w h u) = rw (entry-complete w, lt-leb (s .clauses) k h, lt-ltb (s .vars) (varOf l) u)
+  judgeTokens-stop {k} {n} {t} ts (over l w h u o) =
+      rw (entry-complete w, lt-leb (s .clauses) k h, le-ltb (s .vars) (varOf l) u, le-leb maxEntries n o)
+
+  pub judgeTokens-end : {ts : List Piece} {es : List ℤ} → Passes s 0 0 ts es → judgeTokens s end 0 0 ts ≡ withEntries es (judgeEnd (ltb (count isZero es) (s .clauses)) s end)
+  unfolding judgeTokens
+  judgeTokens-end {ts} {es} p =
+      ap (judgeTokens s end 0 0) (sym (append-nil ts)) ∙ judgeTokens-passes [] p ∙
+      ap (λ (i : ℕ). withEntries es (judgeEnd (ltb i (s .clauses)) s end)) (omega arith)
+
+  pub judgeTokens-stopped : {ts : List Piece} (d : Stopped s 0 0 ts) → judgeTokens s end 0 0 ts ≡ refused (d .answer)
+  judgeTokens-stopped d =
+      ap (judgeTokens s end 0 0) (d .tokens) ∙ judgeTokens-passes (d .token ∷ d .after) (d .passes) ∙
+      ap (withEntries (d .es)) (judgeTokens-stop (d .after) (d .stop)) ∙ withEntries-refused (d .es) (d .answer)

@@ -1,0 +1,154 @@
+-- What we promise of a reading (document 01, "The text" and "What comes back"): what a caller sees, for every text and every buffer.
+--
+--   read-accepts, read-accepted   accepted exactly if the text is DIMACS CNF, with its V, C and entries
+--   read-refuses, read-refused    refused with a number exactly if the rule of that number says so
+--   reads-exists, reads-unique    there is a result that meets the contract, and no second one
+--   length-entriesAfter           nothing beyond the buffer is written
+--   small-texts                   the four texts of document 01, computed
+--
+-- Assumes nothing.
+use mathlib.Core.Path.{_≡_, refl, sym, _∙_, ap, subst, subst₂}
+use mathlib.Core.Logic.{_≢_, _↔_}
+use mathlib.Core.Bool.{Bool, true, _&&_}
+use mathlib.Core.List.{List, [], _∷_, _++_, append-assoc}
+use Prim.Native.Nat.{ℕ, _+_, _-_, _≤_}
+use native.Mathlib.Omega.{arith}
+use lib.Dec.{eqb}
+use lib.IntN.{ℤ, pos}
+use lib.ListN.{length, take, drop, replicate, length-append, length-replicate, length-drop}
+use lib.Seq.{take-append-seam}
+use Rattle.rules.specs.declared.ReadAnswer.{ReadAnswer}
+use Rattle.rules.specs.declared.Reading.{Reading}
+use Rattle.rules.specs.Lists.{all}
+use Rattle.rules.specs.Numbers.{maxEntries, readNumber, readPlace}
+use Rattle.rules.specs.Text.{Sizes, linesOf, tokensFrom, numeral, headerOf, entryOf}
+use Rattle.rules.specs.Reading.{Judged, accepted, refused, judge, judgeTokens, judgeLines, returned, readingOf, filled, written, entriesAfter, Reads}
+use Rattle.rules.specs.Grammar.{Dimacs}
+use Rattle.rules.specs.Refusals.{Begun, Refuses, buffer-short, text-long, no-header, bad-header, header-large, bad-token, token-after-last, variable-above, entry-over, ends-early}
+use Rattle.rules.proofs.VerdictLaws.{Verdict, refuses, accepts, verdict-of-judge}
+use Rattle.rules.proofs.GrammarLaws.{dimacs-of-whole, accepted-sound, accepted-complete}
+use Rattle.rules.proofs.RefusalLaws.{refusal-sound, refusal-complete, accepted-never-answer}
+
+-- ---- accepted
+
+-- the entries stand in front of what the buffer holds
+filled-inj : (xs ys before : List ℤ) → length xs ≡ length ys → filled xs before ≡ filled ys before → xs ≡ ys
+filled-inj xs ys before n e = sym (front xs) ∙ ap (take (length xs)) e ∙ ap (λ (i : ℕ). take i (filled ys before)) n ∙ front ys
+  where
+    front : (zs : List ℤ) → take (length zs) (filled zs before) ≡ zs
+    front zs =
+        ap (take (length zs)) (append-assoc zs (replicate (maxEntries - length zs) (pos 0)) (drop maxEntries before)) ∙
+        take-append-seam zs (replicate (maxEntries - length zs) (pos 0) ++ drop maxEntries before)
+
+-- A long enough buffer gets V, C and the entry count of a DIMACS text, its entries, zeros, and keeps its rest; and no other text does so.
+pub read-accepts : (text : List ℕ) (before : List ℤ) → maxEntries ≤ length before → (s : Sizes) (es : List ℤ) → Dimacs text (s .vars) (s .clauses) es ↔ ((readingOf text before ≡ record { answer = ReadAnswer.Accepted; vars = s .vars; clauses = s .clauses; entries = length es }) × (entriesAfter text before ≡ filled es before))
+unfolding readingOf entriesAfter
+read-accepts text before h s es = (λ d. (ap returned (accepted-complete (length before) text h d), ap (λ (j : Judged). written j before) (accepted-complete (length before) text h d)), λ w. go (judge (length before) text) refl (w .0) (w .1))
+  where
+    go : (j : Judged) → judge (length before) text ≡ j → returned j ≡ record { answer = ReadAnswer.Accepted; vars = s .vars; clauses = s .clauses; entries = length es } → written j before ≡ filled es before → Dimacs text (s .vars) (s .clauses) es
+    go (accepted z xs) q r b =
+        let same : xs ≡ es = filled-inj xs es before (ap (λ (r : Reading). r .entries) r) b in
+        let found : Dimacs text (z .vars) (z .clauses) xs = accepted-sound (length before) text q in
+        subst (λ (ys : List ℤ). Dimacs text (s .vars) (s .clauses) ys) same
+        (subst₂ (λ (v c : ℕ). Dimacs text v c xs) (ap (λ (r : Reading). r .vars) r) (ap (λ (r : Reading). r .clauses) r) found)
+    go (refused a) q r b = absurd (accepted-never-answer (length before) text (q ∙ ap refused (ap (λ (r : Reading). r .answer) r)))
+
+-- If the answer is "accepted", the buffer was long enough and the text is a DIMACS text.
+pub read-accepted : (text : List ℕ) (before : List ℤ) → readingOf text before .answer ≡ ReadAnswer.Accepted → (maxEntries ≤ length before) × (s : Sizes) × (es : List ℤ) × Dimacs text (s .vars) (s .clauses) es
+unfolding readingOf
+read-accepted text before e = go (judge (length before) text) refl e
+  where
+    whole : {s : Sizes} {es : List ℤ} → Verdict (length before) text (accepted s es) → (maxEntries ≤ length before) × (s : Sizes) × (es : List ℤ) × Dimacs text (s .vars) (s .clauses) es
+    whole {s} {es} (accepts w) = (w .begun .room-fits, s, es, dimacs-of-whole w)
+
+    go : (j : Judged) → judge (length before) text ≡ j → returned j .answer ≡ ReadAnswer.Accepted → (maxEntries ≤ length before) × (s : Sizes) × (es : List ℤ) × Dimacs text (s .vars) (s .clauses) es
+    go (accepted s es) q r = whole (verdict-of-judge (length before) text q)
+    go (refused a) q r = absurd (accepted-never-answer (length before) text (q ∙ ap refused r))
+
+-- ---- refused
+
+-- A text gets the answer of a refusal exactly if the rule for that answer says so.
+pub read-refuses : (text : List ℕ) (before : List ℤ) (a : ReadAnswer) → a ≢ ReadAnswer.Accepted → (readingOf text before .answer ≡ a) ↔ Refuses (length before) text a
+unfolding readingOf
+read-refuses text before a n = (λ e. go (judge (length before) text) refl e, λ r. ap (λ (j : Judged). returned j .answer) (refusal-complete (length before) text r))
+  where
+    go : (j : Judged) → judge (length before) text ≡ j → returned j .answer ≡ a → Refuses (length before) text a
+    go (accepted s es) q r = absurd (n (sym r))
+    go (refused b) q r = refusal-sound (length before) text (q ∙ ap refused r)
+
+-- A refused reading returns no counts, and its buffer is as the answer says.
+pub read-refused : (text : List ℕ) (before : List ℤ) (a : ReadAnswer) → Refuses (length before) text a → (readingOf text before ≡ record { answer = a; vars = 0; clauses = 0; entries = 0 }) × (entriesAfter text before ≡ written (refused a) before)
+unfolding readingOf entriesAfter
+read-refused text before a r = (ap returned (refusal-complete (length before) text r), ap (λ (j : Judged). written j before) (refusal-complete (length before) text r))
+
+-- ---- the contract
+
+-- There is a result that meets the contract.
+pub reads-exists : (text : List ℕ) (before : List ℤ) → Reads text before (readingOf text before) (entriesAfter text before)
+reads-exists text before = record { result-is = refl; after-is = refl }
+
+-- No second result meets it.
+pub reads-unique : {text : List ℕ} {before : List ℤ} {r r′ : Reading} {b b′ : List ℤ} → Reads text before r b → Reads text before r′ b′ → (r ≡ r′) × (b ≡ b′)
+reads-unique p q = (p .result-is ∙ sym (q .result-is), p .after-is ∙ sym (q .after-is))
+
+-- ---- the buffer
+
+length-filled : (es before : List ℤ) → length es ≤ maxEntries → maxEntries ≤ length before → length (filled es before) ≡ length before
+length-filled es before h k = simp (length-append, length-replicate, length-drop) (omega arith)
+
+module _ (text : List ℕ) (before : List ℤ) where
+  -- after 3 to 9: the buffer is long enough
+  length-cleared : Begun (length before) text → length (filled [] before) ≡ length before
+  length-cleared b = length-filled [] before (omega arith) (b .room-fits)
+
+  length-refused : {a : ReadAnswer} → Refuses (length before) text a → length (written (refused a) before) ≡ length before
+  length-refused (buffer-short h) = refl
+  length-refused (text-long h k) = refl
+  length-refused (no-header b h) = length-cleared b
+  length-refused (bad-header line b f h) = length-cleared b
+  length-refused (header-large line v c b f h k) = length-cleared b
+  length-refused (bad-token s es t w h) = length-cleared (w .begun)
+  length-refused (token-after-last s es t l w h k) = length-cleared (w .begun)
+  length-refused (variable-above s es t l w h k u) = length-cleared (w .begun)
+  length-refused (entry-over s es t l w h k u m) = length-cleared (w .begun)
+  length-refused (ends-early line s es b h f k) = length-cleared b
+
+  -- A reading writes nothing beyond the buffer that is lent.
+  pub length-entriesAfter : length (entriesAfter text before) ≡ length before
+  unfolding entriesAfter
+  length-entriesAfter = go (verdict-of-judge (length before) text refl)
+    where
+      go : {j : Judged} → Verdict (length before) text j → length (written j before) ≡ length before
+      go (refuses r) = length-refused r
+      go (accepts {es} w) = length-filled es before (w .fine .most) (w .begun .room-fits)
+
+-- ---- the four small texts, each after `p cnf 1 1` and LF
+
+pub record SmallText : Type 0 where
+  pub behind : List ℕ
+  pub number : ℕ
+  pub place : ℕ
+
+unfoldable pub smallTexts : List SmallText
+smallTexts =
+    -- `2 0`
+    record { behind = 50 ∷ 32 ∷ 48 ∷ []; number = 7; place = 10 } ∷
+    -- `-0 0`
+    record { behind = 45 ∷ 48 ∷ 32 ∷ 48 ∷ []; number = 5; place = 10 } ∷
+    -- `1` and LF
+    record { behind = 49 ∷ 10 ∷ []; number = 9; place = 12 } ∷
+    -- `1 0 1 0`
+    record { behind = 49 ∷ 32 ∷ 48 ∷ 32 ∷ 49 ∷ 32 ∷ 48 ∷ []; number = 6; place = 14 } ∷
+    []
+
+-- the answer to such a text, with a buffer of 4,096 entries
+unfoldable pub answerTo : List ℕ → ReadAnswer
+answerTo behind = readingOf (112 ∷ 32 ∷ 99 ∷ 110 ∷ 102 ∷ 32 ∷ 49 ∷ 32 ∷ 49 ∷ 10 ∷ behind) (replicate maxEntries (pos 0)) .answer
+
+unfoldable pub passes : SmallText → Bool
+passes t = eqb (readNumber (answerTo (t .behind))) (t .number) && eqb (readPlace (answerTo (t .behind))) (t .place)
+
+-- The four texts of document 01 get the numbers and places that it gives.
+pub small-texts : all passes smallTexts ≡ true
+unfolding smallTexts passes answerTo readingOf judge linesOf judgeLines headerOf numeral tokensFrom judgeTokens entryOf
+small-texts = refl

@@ -1,0 +1,51 @@
+-- When a run is refused, number by number, as the table of document 01 says it. That a run gives a number exactly when its rule
+-- here says so is a theorem. Assumes nothing.
+use mathlib.Core.Path.{_≡_}
+use mathlib.Core.Logic.{_⊎_}
+use mathlib.Core.Bool.{true, false}
+use mathlib.Core.List.{List, [], _∷_, _++_}
+use Prim.Native.Nat.{ℕ, _≤_, _<_}
+use lib.IntN.{ℤ, pos}
+use lib.ListN.{length}
+use Rattle.rules.specs.declared.RunAnswer.{RunAnswer}
+use Rattle.rules.specs.Lists.{In, count}
+use Rattle.rules.specs.Numbers.{maxVars, maxClauses, maxEntries, maxChunk}
+use Rattle.rules.specs.Meaning.{varOf}
+use Rattle.rules.specs.Reading.{isZero}
+use Rattle.rules.specs.Answer.{Given, logLength, isEnded}
+
+-- not 10
+pub record InLimits (g : Given) : Type 0 where
+  pub vars-fit : g .vars ≤ maxVars
+  pub limit-some : 1 ≤ g .limit
+  pub limit-fits : g .limit ≤ maxChunk
+
+-- nor 1
+pub record Lent (g : Given) : Type 0 where
+  pub in-limits : InLimits g
+  pub status-fits : g .vars ≤ length (g .status)
+  pub log-fits : logLength (g .vars) ≤ length (g .log)
+
+-- nor 11
+pub record Listed (g : Given) : Type 0 where
+  pub lent : Lent g
+  pub entries-fit : length (g .entries) ≤ maxEntries
+  pub ended : isEnded (g .entries) ≡ true
+  pub clauses-fit : count isZero (g .entries) ≤ maxClauses
+
+-- nor 12
+pub record Accepted (g : Given) : Type 0 where
+  pub listed : Listed g
+  pub up-to : (l : ℤ) → In l (g .entries) → varOf l ≤ g .vars
+
+pub data RunRefuses (g : Given) : RunAnswer → Type 0 where
+  -- 10
+  out-of-limits : (maxVars < g .vars) ⊎ ((g .limit ≡ 0) ⊎ (maxChunk < g .limit)) → RunRefuses g RunAnswer.OutOfLimits
+  -- 1
+  buffer-short : InLimits g → (length (g .status) < g .vars) ⊎ (length (g .log) < logLength (g .vars)) → RunRefuses g RunAnswer.BufferShort
+  -- 11: too long; not empty and not ended by 0; a zero behind 1,024 others
+  list-long : Lent g → maxEntries < length (g .entries) → RunRefuses g (RunAnswer.BadList maxEntries)
+  not-ended : Lent g → length (g .entries) ≤ maxEntries → (front : List ℤ) (l : ℤ) → g .entries ≡ front ++ (l ∷ []) → isZero l ≡ false → RunRefuses g (RunAnswer.BadList (length (g .entries)))
+  zero-over : Lent g → length (g .entries) ≤ maxEntries → isEnded (g .entries) ≡ true → (front back : List ℤ) → g .entries ≡ front ++ pos 0 ∷ back → count isZero front ≡ maxClauses → RunRefuses g (RunAnswer.BadList (length front))
+  -- 12: the first variable above V
+  variable-above : Listed g → (front : List ℤ) (l : ℤ) (back : List ℤ) → g .entries ≡ front ++ l ∷ back → ((k : ℤ) → In k front → varOf k ≤ g .vars) → g .vars < varOf l → RunRefuses g (RunAnswer.VariableAbove (length front))
