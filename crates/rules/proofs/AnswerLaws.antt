@@ -1,10 +1,10 @@
--- The laws of specs/Answer: a run is refused, by number and place, exactly when the table of document 01 says so, and accepted
--- otherwise.
+-- The laws of specs/Answer: the tests by which a run is refused, each against what the table of document 01 says.
 --
---   nthIndex-split, nthIndex-at    the element at nthIndex, and back
---   isEnded-sound, isEnded-last    empty or ended by 0
---   run-refused-sound, run-refused-complete     each number exactly when its rule says
---   run-accepted-sound, run-accepted-complete   no refusal exactly if every rule is kept
+--   Nth, nthIndex-split, nthIndex-at      the element at nthIndex, and back
+--   isEnded-snoc, isEnded-last    empty or ended by 0
+--   limits-sound, limits-complete, limits-false, limits-of     the test of 10, both ways
+--   room-sound, room-complete, room-false, room-of     the test of 1, both ways
+--   list-false                    a list that no case of 11 refuses
 --
 -- Assumes nothing.
 use mathlib.Core.Path.{_≡_, refl, sym, _∙_, ap}

@@ -20,11 +20,11 @@ use Prim.Native.Nat.{ℕ, zero, suc, _≤_, _<_}
 use native.Mathlib.Omega.{arith}
 use lib.Dec.{ltb}
 use lib.ListN.{set, length, length-set}
-use Rattle.rules.specs.Meaning.{Clause, Values, valueAt}
+use Rattle.rules.specs.Meaning.{Clause, Values, valueAt, Proper}
 use Rattle.rules.specs.Closing.{Closed, clash, closed, closing, unsets}
 use Rattle.rules.specs.Models.{Extends}
 use Rattle.rules.specs.Search.{Call, model, no-model, stopped, next, lowestUnset, ifLeft, try, orElse, choose, onClosed, goOn, callOn}
-use Rattle.rules.proofs.MeaningLaws.{Proper, proper-set, extends-trans, extends-set, unsets-set}
+use Rattle.rules.proofs.MeaningLaws.{proper-set, extends-trans, extends-set, unsets-set}
 use Rattle.rules.proofs.ClosingLaws.{Settled, Ends, closing-ends}
 
 -- ---- the choice

@@ -20,12 +20,12 @@ use lib.ListN.{length, length-set}
 use Rattle.rules.specs.declared.ClauseState.{ClauseState}
 use Rattle.rules.specs.declared.ClauseState.the-variants.{False, Unit, True, Undecided}
 use Rattle.rules.specs.Lists.{In}
-use Rattle.rules.specs.Meaning.{Clause, Values, indexOf, trueByte, isUnset, assign, hasTrue, satisfies}
+use Rattle.rules.specs.Meaning.{Clause, Values, indexOf, trueByte, isUnset, assign, hasTrue, satisfies, Proper}
 use Rattle.rules.specs.Closing.{stateOf, Round, under-way, at-false, met, visit, round, Closed, clash, closed, again, unsets, closeIn, closing}
 use Rattle.rules.specs.Models.{Extends}
 use Rattle.rules.specs.Visits.{Quiet}
 use Rattle.rules.proofs.ListLaws.{and-left, and-right}
-use Rattle.rules.proofs.MeaningLaws.{Proper, proper-assign, extends-refl, extends-trans, extends-assign, assign-extends, unsets-assign}
+use Rattle.rules.proofs.MeaningLaws.{proper-assign, extends-refl, extends-trans, extends-assign, assign-extends, unsets-assign}
 pub use Rattle.rules.proofs.StateLaws.{AllFalse, OneUnset, TwoUnset, Means, means, state-unique, unit-sound, false-sound, Calm, calm-of-quiet, quiet-of-calm}
 
 -- ---- a round: what it makes of the values extends them, and it counts what it sets

@@ -22,12 +22,12 @@ use borrow.Author.Tests.{eqb-true, eqb-false}
 use Rattle.rules.specs.declared.ClauseState.{ClauseState}
 use Rattle.rules.specs.declared.ClauseState.the-variants.{False, Unit, True, Undecided}
 use Rattle.rules.specs.Lists.{In, eqz}
-use Rattle.rules.specs.Meaning.{Clause, Values, indexOf, valueAt, trueByte, falseByte, isTrue, isUnset, assign, hasTrue}
+use Rattle.rules.specs.Meaning.{Clause, Values, indexOf, valueAt, trueByte, falseByte, isTrue, isUnset, assign, hasTrue, Proper}
 use Rattle.rules.specs.Closing.{stateOf, Round, under-way, at-false, met, visit, round, Closed, clash, closed, closing}
 use Rattle.rules.specs.Models.{Extends, Covers}
 use Rattle.rules.specs.Visits.{Visits, start, unit, Quiet}
 use Rattle.rules.proofs.ListLaws.{both, never, not-true, any-sound, none-of-any, eqz-sound, eqz-complete}
-use Rattle.rules.proofs.MeaningLaws.{Proper, proper-assign, set-elim, extends-refl, extends-trans, extends-antisym, extends-assign, false-byte, not-true-of-false}
+use Rattle.rules.proofs.MeaningLaws.{proper-assign, set-elim, extends-refl, extends-trans, extends-antisym, extends-assign, false-byte, not-true-of-false}
 use Rattle.rules.proofs.ClosingLaws.{OneUnset, AllFalse, Means, means, Calm, calm-of-quiet, closing-rec, Ends, closing-ends}
 
 -- ---- closing is one order of visits

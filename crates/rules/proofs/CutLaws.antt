@@ -13,9 +13,9 @@
 --
 -- Assumes nothing.
 use mathlib.Core.Path.{_≡_, refl, sym, _∙_, ap, ap₂, subst}
-use mathlib.Core.Bool.{Bool, true, false, not, _&&_, _||_}
+use mathlib.Core.Bool.{Bool, true, false, not, _||_}
 use mathlib.Core.List.{List, [], _∷_, _++_, map, append-nil, append-assoc}
-use Prim.Native.Nat.{ℕ, zero, suc, _+_, _≤_}
+use Prim.Native.Nat.{ℕ, suc, _+_, _≤_}
 use native.Mathlib.Omega.{arith}
 use lib.ListN.{length}
 use Rattle.rules.specs.Lists.{any, all, keep, onto, cut, cutIf}
@@ -38,7 +38,8 @@ nil-not-append (x ∷ xs) y ys e = let z : _≡_ {A = ℕ} 0 1 = cc in omega ari
 
 pub data Cut {A : Type 0} (p : A → Bool) : List A → List (List A) → Type 0 where
   last : {xs : List A} → any p xs ≡ false → Cut p xs (xs ∷ [])
-  piece : {xs : List A} {y : A} {ys : List A} {yss : List (List A)} → any p xs ≡ false → p y ≡ true → Cut p ys yss → Cut p (xs ++ y ∷ ys) (xs ∷ yss)
+  piece : {xs : List A} {y : A} {ys : List A} {yss : List (List A)} → any p xs ≡ false → p y ≡ true → Cut p ys yss
+      → Cut p (xs ++ y ∷ ys) (xs ∷ yss)
 
 module _ {A : Type 0} (p : A → Bool) where
   pub cut-none : (xs : List A) → any p xs ≡ false → cut p xs ≡ xs ∷ []
@@ -86,15 +87,19 @@ pub record Word (p : ℕ → Bool) (w : List ℕ) : Type 0 where
 -- from the place `at` on
 pub data Words (p : ℕ → Bool) : ℕ → List ℕ → List Piece → Type 0 where
   none : {at : ℕ} {bs : List ℕ} → all p bs ≡ true → Words p at bs []
-  word : (bs : List ℕ) {at here next : ℕ} {w rest : List ℕ} {ts : List Piece} → all p bs ≡ true → Word p w → here ≡ at + length bs → next ≡ here + length w → Stops p rest → Words p next rest ts → Words p at (bs ++ w ++ rest) (record { at = here; bytes = w } ∷ ts)
+  word : (bs : List ℕ) {at here next : ℕ} {w rest : List ℕ} {ts : List Piece} → all p bs ≡ true → Word p w → here ≡ at + length bs
+      → next ≡ here + length w → Stops p rest → Words p next rest ts
+      → Words p at (bs ++ w ++ rest) (record { at = here; bytes = w } ∷ ts)
 
 module _ (p : ℕ → Bool) where
-  words-skip : {at next : ℕ} {y : ℕ} {ys : List ℕ} {ts : List Piece} → next ≡ suc at → p y ≡ true → Words p next ys ts → Words p at (y ∷ ys) ts
+  words-skip : {at next : ℕ} {y : ℕ} {ys : List ℕ} {ts : List Piece} → next ≡ suc at → p y ≡ true → Words p next ys ts
+      → Words p at (y ∷ ys) ts
   words-skip {y} q e (none {bs} h) = none {bs = y ∷ bs} (rw e h)
   words-skip {at} {y} q e (word bs {here} h w i j s r) = word (y ∷ bs) {at = at} {here = here} (rw e h) w (omega arith) j s r
 
   -- a word at once
-  words-now : (at : ℕ) (x : ℕ) (xs : List ℕ) {rest : List ℕ} {ts : List Piece} → any p (x ∷ xs) ≡ false → Stops p rest → Words p (at + length (x ∷ xs)) rest ts → Words p at ((x ∷ xs) ++ rest) (record { at = at; bytes = x ∷ xs } ∷ ts)
+  words-now : (at : ℕ) (x : ℕ) (xs : List ℕ) {rest : List ℕ} {ts : List Piece} → any p (x ∷ xs) ≡ false → Stops p rest
+      → Words p (at + length (x ∷ xs)) rest ts → Words p at ((x ∷ xs) ++ rest) (record { at = at; bytes = x ∷ xs } ∷ ts)
   words-now at x xs h s r = word [] {at = at} {here = at} {w = x ∷ xs} refl (record { some = omega arith; none = h }) (omega arith) refl s r
 
   pub words-of-cut : {xs : List ℕ} {xss : List (List ℕ)} (at : ℕ) → Cut p xs xss → Words p at xs (placedWords at xss)
@@ -114,7 +119,8 @@ module _ (p : ℕ → Bool) where
       rw (and-left (p b) (all p bs) h)
       (wordsFrom-blanks (at + 0 + 1) bs xs (and-right (p b) (all p bs) h) ∙ ap (λ (i : ℕ). wordsFrom p i xs) (omega arith))
 
-  pub wordsFrom-word : (at : ℕ) (w : List ℕ) {rest : List ℕ} → Word p w → Stops p rest → wordsFrom p at (w ++ rest) ≡ record { at = at; bytes = w } ∷ wordsFrom p (at + length w) rest
+  pub wordsFrom-word : (at : ℕ) (w : List ℕ) {rest : List ℕ} → Word p w → Stops p rest
+      → wordsFrom p at (w ++ rest) ≡ record { at = at; bytes = w } ∷ wordsFrom p (at + length w) rest
   wordsFrom-word at [] h s = absurd (omega arith)
   wordsFrom-word at (x ∷ xs) h at-end = ap (placedWords at) (ap (cut p) (append-nil (x ∷ xs)) ∙ cut-none p (x ∷ xs) (h .none))
   wordsFrom-word at (x ∷ xs) h (at-one {b} {bs} e) =
@@ -128,7 +134,8 @@ module _ (p : ℕ → Bool) where
       ap₂ (λ (a b : ℕ). record { at = a; bytes = w } ∷ wordsFrom p b rest) (sym i) (omega arith) ∙
       ap (λ (ts : List Piece). record { at = here; bytes = w } ∷ ts) (words-unique r)
 
-pub bytes-placedWords : (at : ℕ) (xss : List (List ℕ)) → map (λ (t : Piece). t .bytes) (placedWords at xss) ≡ keep (λ v. not (isEmpty v)) xss
+pub bytes-placedWords : (at : ℕ) (xss : List (List ℕ))
+    → map (λ (t : Piece). t .bytes) (placedWords at xss) ≡ keep (λ v. not (isEmpty v)) xss
 bytes-placedWords at [] = refl
 bytes-placedWords at ([] ∷ xss) = bytes-placedWords (at + 0 + 1) xss
 bytes-placedWords at ((x ∷ xs) ∷ xss) = ap (λ (yss : List (List ℕ)). (x ∷ xs) ∷ yss) (bytes-placedWords (at + length (x ∷ xs) + 1) xss)

@@ -10,9 +10,9 @@
 --
 -- Assumes nothing.
 use mathlib.Core.Path.{_≡_, refl, sym, _∙_, ap, subst, subst₂}
-use mathlib.Core.Bool.{Bool, true, false, _&&_, _||_}
+use mathlib.Core.Bool.{Bool, true, false}
 use mathlib.Core.List.{List, [], _∷_, _++_, append-nil}
-use Prim.Native.Nat.{ℕ, zero, suc, _+_, _≤_, _<_}
+use Prim.Native.Nat.{ℕ, suc, _+_, _≤_, _<_}
 use native.Mathlib.Omega.{arith}
 use lib.IntN.{ℤ, pos}
 use lib.ListN.{length, length-append, drop}
@@ -20,12 +20,13 @@ use borrow.Author.Tests.{eqb-true}
 use Rattle.rules.specs.Lists.{any, count, countIf}
 use Rattle.rules.specs.Numbers.{maxEntries}
 use Rattle.rules.specs.Text.{isLf, isBlank, Piece, Sizes, tokensFrom}
-use Rattle.rules.specs.Reading.{Judged, accepted, isZero, behind, judge}
-use Rattle.rules.specs.Grammar.{Blanks, Before, Header, Ended, at-end, at-blank, Body, blanks, token, Text, header-only, with-body, ClausesOf, no-clause, clause, Dimacs}
-use Rattle.rules.specs.Refusals.{FirstLine, Say, nothing, one-more, Headed, Fine}
+use Rattle.rules.specs.Reading.{accepted, isZero, behind, judge}
+use Rattle.rules.specs.Grammar.{Before, Header, Ended, at-end, at-blank, Body, blanks, token, Text, header-only, with-body, ClausesOf, no-clause, clause, Dimacs}
+use Rattle.rules.specs.Refusals.{FirstLine, Say, nothing, one-more}
 use Rattle.rules.proofs.ListLaws.{count-append, eqz-sound}
 use Rattle.rules.proofs.CutLaws.{or-left, or-right, nil-not-append, Stops, Words, words-exists, words-unique}
-use Rattle.rules.proofs.HeaderLaws.{word-of-token, header-not-skipped, header-no-lf}
+use Rattle.rules.proofs.TokenLaws.{word-of-token}
+use Rattle.rules.proofs.HeaderLaws.{header-not-skipped, header-no-lf}
 use Rattle.rules.proofs.LineLaws.{Front, first-line-sound, first-line-complete, drop-behind}
 use Rattle.rules.proofs.JudgeLaws.{Passes, passed, pass, passes-of-fine}
 use Rattle.rules.proofs.VerdictLaws.{tokensOf, Whole, Verdict, accepts, judge-of-verdict, verdict-of-judge}
@@ -36,11 +37,14 @@ clausesOf-cons : {m : ℕ} {l : ℤ} {es : List ℤ} → isZero l ≡ false → 
 clausesOf-cons e h no-clause = absurd (omega arith)
 clausesOf-cons {l} e h (clause cl k c) = clause (l ∷ cl) (rw e k) c
 
-pub clausesOf-of-passes : {s : Sizes} {k n : ℕ} {ts : List Piece} {es : List ℤ} → Passes s k n ts es → k + count isZero es ≡ s .clauses → ClausesOf (count isZero es) es
+pub clausesOf-of-passes : {s : Sizes} {k n : ℕ} {ts : List Piece} {es : List ℤ} → Passes s k n ts es
+    → k + count isZero es ≡ s .clauses → ClausesOf (count isZero es) es
 clausesOf-of-passes passed h = no-clause
 clausesOf-of-passes {s} {k} (pass {l} {es} w f p) h = go (isZero l) refl h (clausesOf-of-passes p)
   where
-    go : (t : Bool) → isZero l ≡ t → k + countIf t (count isZero es) ≡ s .clauses → (countIf (isZero l) k + count isZero es ≡ s .clauses → ClausesOf (count isZero es) es) → ClausesOf (countIf t (count isZero es)) (l ∷ es)
+    go : (t : Bool) → isZero l ≡ t → k + countIf t (count isZero es) ≡ s .clauses
+        → (countIf (isZero l) k + count isZero es ≡ s .clauses → ClausesOf (count isZero es) es)
+        → ClausesOf (countIf t (count isZero es)) (l ∷ es)
     go true e q ih = rw (eqz-sound l (pos 0) e) (clause [] refl (ih (rw e (omega arith))))
     go false e q ih = clausesOf-cons e (omega (arith, f .not-behind)) (ih (rw e q))
 
@@ -52,14 +56,19 @@ pub count-clausesOf : {m : ℕ} {es : List ℤ} → ClausesOf m es → count isZ
 count-clausesOf no-clause = refl
 count-clausesOf (clause cl {es} h c) = omega (arith, count-append isZero cl (pos 0 ∷ es), count-none isZero cl h, count-clausesOf c)
 
-pub not-behind-of-clausesOf : {m : ℕ} {es : List ℤ} → ClausesOf m es → (front : List ℤ) (l : ℤ) (back : List ℤ) → es ≡ front ++ l ∷ back → count isZero front < m
+pub not-behind-of-clausesOf : {m : ℕ} {es : List ℤ} → ClausesOf m es → (front : List ℤ) (l : ℤ) (back : List ℤ)
+    → es ≡ front ++ l ∷ back → count isZero front < m
 not-behind-of-clausesOf no-clause front l back e = absurd (nil-not-append front l back e)
 not-behind-of-clausesOf (clause {n} cl {es} h c) front l back e = inside cl h (λ f x b q. not-behind-of-clausesOf c f x b q) front e
   where
-    inside : (cl : List ℤ) → any isZero cl ≡ false → ((front : List ℤ) (l : ℤ) (back : List ℤ) → es ≡ front ++ l ∷ back → count isZero front < n) → (front : List ℤ) → cl ++ pos 0 ∷ es ≡ front ++ l ∷ back → count isZero front < suc n
+    inside : (cl : List ℤ) → any isZero cl ≡ false
+        → ((front : List ℤ) (l : ℤ) (back : List ℤ) → es ≡ front ++ l ∷ back → count isZero front < n) → (front : List ℤ)
+        → cl ++ pos 0 ∷ es ≡ front ++ l ∷ back → count isZero front < suc n
     inside cl h ih [] e = omega arith
     inside [] h ih (x ∷ front) e = let q : x ≡ pos 0 = cc in rw q (omega (arith, ih front l back (cc)))
-    inside (y ∷ cl) h ih (x ∷ front) e = let q : x ≡ y = cc in rw (q, or-left (isZero y) (any isZero cl) h) (inside cl (or-right (isZero y) (any isZero cl) h) ih front (cc))
+    inside (y ∷ cl) h ih (x ∷ front) e =
+        let q : x ≡ y = cc in
+        rw (q, or-left (isZero y) (any isZero cl) h) (inside cl (or-right (isZero y) (any isZero cl) h) ih front (cc))
 
 -- ---- tokens
 
@@ -103,7 +112,16 @@ pub record Parts (text : List ℕ) (vars clauses : ℕ) (es : List ℤ) : Type 0
 
 pub parts-of-text : {text : List ℕ} {vars clauses : ℕ} {es : List ℤ} → Text text vars clauses es → Parts text vars clauses es
 parts-of-text (header-only {a} {h} b k) =
-    record { front = a; line = h; rest = []; before = b; is-header = k; stops = Stops.at-end; is-text = sym (append-nil (a ++ h)); body = blanks (record { each = refl }) }
+    record {
+      front = a;
+      line = h;
+      rest = [];
+      before = b;
+      is-header = k;
+      stops = Stops.at-end;
+      is-text = sym (append-nil (a ++ h));
+      body = blanks (record { each = refl });
+    }
 parts-of-text (with-body {a} {h} {rest} b k y) =
     record { front = a; line = h; rest = 10 ∷ rest; before = b; is-header = k; stops = Stops.at-one refl; is-text = refl; body = y }
 
@@ -151,7 +169,8 @@ dimacs-of-whole {text} {s} {es} w =
           body = body-of-say (behind (w .line)) (drop 1 (found .rest)) (subst (λ (xs : List ℕ). Say (tokensFrom (behind (w .line)) xs) es) (drop-behind found) (w .fine .say));
         }
 
-pub whole-of-dimacs : {room : ℕ} {text : List ℕ} {vars clauses : ℕ} {es : List ℤ} → maxEntries ≤ room → Dimacs text vars clauses es → Whole room text (record { vars = vars; clauses = clauses }) es
+pub whole-of-dimacs : {room : ℕ} {text : List ℕ} {vars clauses : ℕ} {es : List ℤ} → maxEntries ≤ room → Dimacs text vars clauses es
+    → Whole room text (record { vars = vars; clauses = clauses }) es
 whole-of-dimacs {text} {vars} {clauses} {es} h d =
     record {
       begun = record { room-fits = h; text-fits = d .text-fits };
@@ -187,11 +206,13 @@ whole-of-dimacs {text} {vars} {clauses} {es} h d =
     say : Say (tokensOf text line) es
     say = subst (λ (xs : List ℕ). Say (tokensFrom (behind line) xs) es) (sym (drop-behind found)) (say-of-body (behind line) (p .body))
 
-pub accepted-sound : (room : ℕ) (text : List ℕ) {s : Sizes} {es : List ℤ} → judge room text ≡ accepted s es → Dimacs text (s .vars) (s .clauses) es
+pub accepted-sound : (room : ℕ) (text : List ℕ) {s : Sizes} {es : List ℤ} → judge room text ≡ accepted s es
+    → Dimacs text (s .vars) (s .clauses) es
 accepted-sound room text e = go (verdict-of-judge room text e)
   where
     go : {s : Sizes} {es : List ℤ} → Verdict room text (accepted s es) → Dimacs text (s .vars) (s .clauses) es
     go (accepts w) = dimacs-of-whole w
 
-pub accepted-complete : (room : ℕ) (text : List ℕ) {vars clauses : ℕ} {es : List ℤ} → maxEntries ≤ room → Dimacs text vars clauses es → judge room text ≡ accepted (record { vars = vars; clauses = clauses }) es
+pub accepted-complete : (room : ℕ) (text : List ℕ) {vars clauses : ℕ} {es : List ℤ} → maxEntries ≤ room
+    → Dimacs text vars clauses es → judge room text ≡ accepted (record { vars = vars; clauses = clauses }) es
 accepted-complete room text h d = judge-of-verdict (accepts (whole-of-dimacs h d))

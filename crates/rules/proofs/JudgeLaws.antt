@@ -1,7 +1,7 @@
 -- The judgement of tokens (specs/Reading), step by step: a token passes or stops the reading, and never both. Tokens that pass are
 -- those with nothing to refuse (specs/Refusals).
 --
---   at-most                       an order is decided
+--   le-or-lt                      an order is decided
 --   Fits, Passes                  tokens with nothing to refuse, one after the other
 --   fine-of-passes, passes-of-fine, count-of-passes     they are those of specs/Refusals, and complete C clauses at most
 --   Stop                          why a token is refused: 5, 6, 7, 8
@@ -12,13 +12,13 @@
 -- Assumes nothing.
 use mathlib.Core.Path.{_≡_, refl, sym, _∙_, ap, ap₂, subst₂}
 use mathlib.Core.Logic.{_⊎_, inl, inr}
-use mathlib.Core.Bool.{Bool, true, false, _&&_, _||_}
+use mathlib.Core.Bool.{Bool, true, false}
 use mathlib.Core.List.{List, [], _∷_, _++_, append-nil, List·Memᴰ·head, List·Memᴰ·tail, List·Memᴰ·not-nil}
 use mathlib.Core.Option.{Option, none, some}
-use Prim.Native.Nat.{ℕ, zero, suc, _+_, _≤_, _<_}
+use Prim.Native.Nat.{ℕ, suc, _+_, _≤_, _<_}
 use native.Mathlib.Omega.{arith}
 use lib.Dec.{leb, ltb}
-use lib.IntN.{ℤ, pos}
+use lib.IntN.{ℤ}
 use lib.ListN.{length}
 use borrow.Author.Tests.{leb-true, leb-false, le-leb, lt-leb, lt-ltb, le-ltb}
 use Rattle.rules.specs.declared.ReadAnswer.{ReadAnswer}
@@ -26,14 +26,14 @@ use Rattle.rules.specs.Lists.{In, count, countIf}
 use Rattle.rules.specs.Numbers.{maxEntries}
 use Rattle.rules.specs.Meaning.{varOf}
 use Rattle.rules.specs.Text.{Piece, Sizes, entryOf}
-use Rattle.rules.specs.Reading.{Judged, accepted, refused, isZero, withEntry, judgeToken, judgeEnd, judgeTokens}
+use Rattle.rules.specs.Reading.{Judged, accepted, refused, isZero, withEntry, judgeEnd, judgeTokens}
 use Rattle.rules.specs.Grammar.{Token}
 use Rattle.rules.specs.Refusals.{Say, nothing, one-more, Fine}
 use Rattle.rules.proofs.CutLaws.{nil-not-append}
-use Rattle.rules.proofs.HeaderLaws.{not-none, entry-sound, entry-complete, entry-none}
+use Rattle.rules.proofs.TokenLaws.{not-none, entry-sound, entry-complete, entry-none}
 
-pub at-most : (a b : ℕ) → (a ≤ b) ⊎ (b < a)
-at-most a b = go (leb a b) refl
+pub le-or-lt : (a b : ℕ) → (a ≤ b) ⊎ (b < a)
+le-or-lt a b = go (leb a b) refl
   where
     go : (t : Bool) → leb a b ≡ t → (a ≤ b) ⊎ (b < a)
     go true e = inl (leb-true a b e)
@@ -56,14 +56,16 @@ pub record Fits (s : Sizes) (k n : ℕ) (l : ℤ) : Type 0 where
 
 pub data Passes (s : Sizes) : ℕ → ℕ → List Piece → List ℤ → Type 0 where
   passed : {k n : ℕ} → Passes s k n [] []
-  pass : {k n : ℕ} {t : Piece} {ts : List Piece} {l : ℤ} {es : List ℤ} → Token (t .bytes) l → Fits s k n l → Passes s (countIf (isZero l) k) (suc n) ts es → Passes s k n (t ∷ ts) (l ∷ es)
+  pass : {k n : ℕ} {t : Piece} {ts : List Piece} {l : ℤ} {es : List ℤ} → Token (t .bytes) l → Fits s k n l
+      → Passes s (countIf (isZero l) k) (suc n) ts es → Passes s k n (t ∷ ts) (l ∷ es)
 
 module _ {s : Sizes} where
   say-of-passes : {k n : ℕ} {ts : List Piece} {es : List ℤ} → Passes s k n ts es → Say ts es
   say-of-passes passed = nothing
   say-of-passes (pass w f p) = one-more w (say-of-passes p)
 
-  not-behind-of-passes : {k n : ℕ} {ts : List Piece} {es : List ℤ} → Passes s k n ts es → (front : List ℤ) (l : ℤ) (back : List ℤ) → es ≡ front ++ l ∷ back → k + count isZero front < s .clauses
+  not-behind-of-passes : {k n : ℕ} {ts : List Piece} {es : List ℤ} → Passes s k n ts es → (front : List ℤ) (l : ℤ) (back : List ℤ)
+      → es ≡ front ++ l ∷ back → k + count isZero front < s .clauses
   not-behind-of-passes passed front l back e = absurd (nil-not-append front l back e)
   not-behind-of-passes (pass w f p) [] l back e = omega (arith, f .not-behind)
   not-behind-of-passes {k} (pass {l = x} w f p) (y ∷ front) l back e =
@@ -93,7 +95,9 @@ module _ {s : Sizes} where
         most = omega (arith, most-of-passes p (omega arith));
       }
 
-  passes-of-say : {k n : ℕ} {ts : List Piece} {es : List ℤ} → Say ts es → ((front : List ℤ) (l : ℤ) (back : List ℤ) → es ≡ front ++ l ∷ back → k + count isZero front < s .clauses) → ((l : ℤ) → In l es → varOf l ≤ s .vars) → n + length es ≤ maxEntries → Passes s k n ts es
+  passes-of-say : {k n : ℕ} {ts : List Piece} {es : List ℤ} → Say ts es
+      → ((front : List ℤ) (l : ℤ) (back : List ℤ) → es ≡ front ++ l ∷ back → k + count isZero front < s .clauses)
+      → ((l : ℤ) → In l es → varOf l ≤ s .vars) → n + length es ≤ maxEntries → Passes s k n ts es
   passes-of-say nothing f u m = passed
   passes-of-say {k} {n} (one-more {l} {es} w h) f u m =
       let fits : Fits s k n l = record { not-behind = omega (arith, f [] l es refl); up-to = u l (List·Memᴰ·head refl); most = omega arith } in
@@ -138,16 +142,16 @@ module _ (s : Sizes) where
       entries l w h u (inr m) = inl (l, w, record { not-behind = h; up-to = u; most = m })
 
       vars : (l : ℤ) → Token (t .bytes) l → k < s .clauses → (varOf l ≤ s .vars) ⊎ (s .vars < varOf l) → Cases
-      vars l w h (inl u) = entries l w h u (at-most maxEntries n)
+      vars l w h (inl u) = entries l w h u (le-or-lt maxEntries n)
       vars l w h (inr u) = inr (ReadAnswer.VariableAbove (t .at), above l w h u)
 
       clauses : (l : ℤ) → Token (t .bytes) l → (s .clauses ≤ k) ⊎ (k < s .clauses) → Cases
       clauses l w (inl h) = inr (ReadAnswer.TokenAfterLast (t .at), after-last l w h)
-      clauses l w (inr h) = vars l w h (at-most (varOf l) (s .vars))
+      clauses l w (inr h) = vars l w h (le-or-lt (varOf l) (s .vars))
 
       go : (o : Option ℤ) → entryOf (t .bytes) ≡ o → Cases
       go none e = inr (ReadAnswer.BadToken (t .at), bad (λ l w. not-none (entry-complete w) e))
-      go (some l) e = clauses l (entry-sound (t .bytes) e) (at-most (s .clauses) k)
+      go (some l) e = clauses l (entry-sound (t .bytes) e) (le-or-lt (s .clauses) k)
 
   pub tokens-cases : (k n : ℕ) (ts : List Piece) → ((es : List ℤ) × Passes s k n ts es) ⊎ Stopped s k n ts
   tokens-cases k n [] = inl ([], passed)
@@ -170,7 +174,8 @@ module _ (s : Sizes) where
             stop = subst₂ (λ (i j : ℕ). Stop s i j (d .token) (d .answer)) (countIf-add (isZero l) k (count isZero (d .es))) (omega arith) (d .stop);
           })
 
-      go : ((l : ℤ) × Token (t .bytes) l × Fits s k n l) ⊎ ((a : ReadAnswer) × Stop s k n t a) → ((j : ℕ) → Cases j (suc n) ts) → Cases k n (t ∷ ts)
+      go : ((l : ℤ) × Token (t .bytes) l × Fits s k n l) ⊎ ((a : ReadAnswer) × Stop s k n t a) → ((j : ℕ) → Cases j (suc n) ts)
+          → Cases k n (t ∷ ts)
       go (inl p) ih = later (p .0) (p .1) (p .2) (ih (countIf (isZero (p .0)) k))
       go (inr q) ih =
           inr (record {
@@ -199,7 +204,8 @@ withEntries-accepted [] s = refl
 withEntries-accepted (l ∷ es) s = ap (withEntry l) (withEntries-accepted es s)
 
 module _ (s : Sizes) (end : ℕ) where
-  pub judgeTokens-passes : {k n : ℕ} {ts : List Piece} {es : List ℤ} (rest : List Piece) → Passes s k n ts es → judgeTokens s end k n (ts ++ rest) ≡ withEntries es (judgeTokens s end (k + count isZero es) (n + length es) rest)
+  pub judgeTokens-passes : {k n : ℕ} {ts : List Piece} {es : List ℤ} (rest : List Piece) → Passes s k n ts es
+      → judgeTokens s end k n (ts ++ rest) ≡ withEntries es (judgeTokens s end (k + count isZero es) (n + length es) rest)
   unfolding judgeTokens
   judgeTokens-passes {k} {n} rest passed = ap₂ (λ (i j : ℕ). judgeTokens s end i j rest) (omega arith) (omega arith)
   judgeTokens-passes {k} {n} rest (pass {t} {ts} {l} {es} w f p) =
@@ -214,7 +220,8 @@ module _ (s : Sizes) (end : ℕ) where
   judgeTokens-stop {k} {n} {t} ts (over l w h u o) =
       rw (entry-complete w, lt-leb (s .clauses) k h, le-ltb (s .vars) (varOf l) u, le-leb maxEntries n o)
 
-  pub judgeTokens-end : {ts : List Piece} {es : List ℤ} → Passes s 0 0 ts es → judgeTokens s end 0 0 ts ≡ withEntries es (judgeEnd (ltb (count isZero es) (s .clauses)) s end)
+  pub judgeTokens-end : {ts : List Piece} {es : List ℤ} → Passes s 0 0 ts es
+      → judgeTokens s end 0 0 ts ≡ withEntries es (judgeEnd (ltb (count isZero es) (s .clauses)) s end)
   unfolding judgeTokens
   judgeTokens-end {ts} {es} p =
       ap (judgeTokens s end 0 0) (sym (append-nil ts)) ∙ judgeTokens-passes [] p ∙

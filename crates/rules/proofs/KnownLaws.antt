@@ -4,6 +4,7 @@
 --   Known             what is known of the models, by the statuses
 --   first-model-is    the first model is one
 --   extends-forced    every model has the values forced so far
+--   otherByte-valued  the other of the two bytes
 --   known-more        one more model found
 --   known-filtered    compare, then flip
 --   known-none        a chunk without a model
@@ -24,13 +25,13 @@ use lib.Seq.{getD-set-same}
 use borrow.Author.Tests.{eqb-true, eqb-false, eq-eqb, ne-eqb}
 use Rattle.rules.specs.declared.RunAnswer.{RunAnswer}
 use Rattle.rules.specs.Lists.{In, any, all}
-use Rattle.rules.specs.Meaning.{Clause, Values, valueAt, indexOf, trueByte, negated, isTrue, hasTrue, satisfies, Total, Model}
+use Rattle.rules.specs.Meaning.{Clause, Values, valueAt, indexOf, trueByte, negated, isTrue, hasTrue, satisfies, Total, Model, Proper}
 use Rattle.rules.specs.Search.{Call, model, no-model, stopped, callOn}
-use Rattle.rules.specs.Models.{Extends, Witness, by-model, by-flip}
+use Rattle.rules.specs.Models.{Extends, Witness, by-model, by-flip, LeastModel, NoModelFrom}
 use Rattle.rules.specs.Run.{Task, Row, Progress, statusAt, opens, literalAt, candidatesFrom, freedFrom, differs, otherByte, flipped, canFlip, compared, flips, forcedBy, forceFirst, blank, forcedValue, forcedValues, chunkOf, constraint, chunkCall, afterModel, afterNone, afterStop, Ended, endedBy, begun, firstCall}
 use Rattle.rules.proofs.ListLaws.{both, never, any-sound, any-complete, and-left}
-use Rattle.rules.proofs.MeaningLaws.{Proper, set-cases, blank-proper, blank-extends, satisfies-append, satisfies-left, satisfies-right}
-use Rattle.rules.proofs.SearchLaws.{Says, LeastModel, NoModelFrom, callOn-says}
+use Rattle.rules.proofs.MeaningLaws.{set-cases, blank-proper, blank-extends, satisfies-append, satisfies-left, satisfies-right}
+use Rattle.rules.proofs.SearchLaws.{Says, callOn-says}
 use Rattle.rules.proofs.StatusLaws.{length-freedFrom, freed-at, candidate-open, literalAt-true, literalAt-negated, length-forceFirst, forceFirst-at, length-forcedValues, forcedValues-at, forcedValue-forcedBy, forcedValue-le}
 
 -- ---- what is known

@@ -1,5 +1,6 @@
 pub mod ListLaws
 pub mod CutLaws
+pub mod TokenLaws
 pub mod LineLaws
 pub mod HeaderLaws
 pub mod JudgeLaws
@@ -27,4 +28,7 @@ pub mod CallTheorems
 pub mod AnswerLaws
 pub mod RefusedRuns
 pub mod BufferTheorems
+pub mod TextTheorems
+pub mod PrintedLaws
 pub mod Starred
+pub mod Theorems

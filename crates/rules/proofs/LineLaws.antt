@@ -9,9 +9,9 @@
 -- Assumes nothing.
 use mathlib.Core.Path.{_≡_, refl, sym, _∙_, ap, ap₂, subst}
 use mathlib.Core.Logic.{_⊎_, inl, inr}
-use mathlib.Core.Bool.{Bool, true, false, _&&_, _||_}
+use mathlib.Core.Bool.{Bool, true, false}
 use mathlib.Core.List.{List, [], _∷_, _++_, append-nil, append-assoc}
-use Prim.Native.Nat.{ℕ, zero, suc, _+_}
+use Prim.Native.Nat.{ℕ, _+_}
 use native.Mathlib.Omega.{arith}
 use lib.ListN.{length, length-append, drop}
 use lib.Seq.{drop-append-add}
@@ -21,11 +21,11 @@ use Rattle.rules.specs.Text.{isLf, Piece, placedFrom, linesOf, isSkipped
 use Rattle.rules.specs.Reading.{behind}
 use Rattle.rules.specs.Grammar.{NoLf, Skipped, blanks, comment, Before, nothing, line}
 use Rattle.rules.specs.Refusals.{FirstLine}
-use Rattle.rules.proofs.ListLaws.{never, both, and-left, and-right}
+use Rattle.rules.proofs.ListLaws.{and-left, and-right}
 use Rattle.rules.proofs.CutLaws.{nil-not-append, Cut, last, piece, cut-exists, cut-none, cut-piece, Stops, at-end, at-one}
-use Rattle.rules.proofs.HeaderLaws.{skipped-sound, skipped-complete}
+use Rattle.rules.proofs.TokenLaws.{skipped-sound, skipped-complete}
 
--- at `at` the list begins
+-- a text that begins at the place `at`: skipped lines, the line that is found, and its end
 pub record Front (at : ℕ) (text : List ℕ) (found : Piece) : Type 0 where
   pub front : List ℕ
   pub rest : List ℕ
@@ -40,11 +40,13 @@ seam xs x ys zs vs = sym (ap (λ (us : List ℕ). us ++ vs) (append-assoc xs (x 
 
 -- ---- from the lines to the text
 
-front-now : (at : ℕ) {text : List ℕ} (bs rest : List ℕ) {found : Piece} → record { at = at; bytes = bs } ≡ found → any isLf bs ≡ false → Stops isLf rest → text ≡ bs ++ rest → Front at text found
+front-now : (at : ℕ) {text : List ℕ} (bs rest : List ℕ) {found : Piece} → record { at = at; bytes = bs } ≡ found
+    → any isLf bs ≡ false → Stops isLf rest → text ≡ bs ++ rest → Front at text found
 front-now at bs rest e h s q =
     subst (Front at _) e (record { front = []; rest = rest; before = nothing; is-text = q; place = omega arith; one-line = record { none = h }; stops = s })
 
-front-later : {at next : ℕ} {text : List ℕ} (bs rest : List ℕ) {found : Piece} → Skipped bs → next ≡ at + length bs + 1 → text ≡ bs ++ 10 ∷ rest → Front next rest found → Front at text found
+front-later : {at next : ℕ} {text : List ℕ} (bs rest : List ℕ) {found : Piece} → Skipped bs → next ≡ at + length bs + 1
+    → text ≡ bs ++ 10 ∷ rest → Front next rest found → Front at text found
 front-later {at} bs rest {found} k e q f =
     record {
       front = bs ++ 10 ∷ f .front;
@@ -56,7 +58,8 @@ front-later {at} bs rest {found} k e q f =
       stops = f .stops;
     }
 
-front-of-lines : (at : ℕ) {text : List ℕ} {xss : List (List ℕ)} (before : List Piece) (found : Piece) (after : List Piece) → Cut isLf text xss → placedFrom at xss ≡ before ++ found ∷ after → all isSkipped before ≡ true → Front at text found
+front-of-lines : (at : ℕ) {text : List ℕ} {xss : List (List ℕ)} (before : List Piece) (found : Piece) (after : List Piece)
+    → Cut isLf text xss → placedFrom at xss ≡ before ++ found ∷ after → all isSkipped before ≡ true → Front at text found
 front-of-lines at [] found after (last {xs} h) e k = front-now at xs [] (cc) h at-end (sym (append-nil xs))
 front-of-lines at (b ∷ before) found after (last h) e k = absurd (nil-not-append before found after (cc))
 front-of-lines at [] found after (piece {xs} {y} {ys} h q c) e k = front-now at xs (y ∷ ys) (cc) h (at-one q) refl
@@ -97,41 +100,70 @@ placed-now at bs n at-end =
 placed-now at bs n (at-one {b = y} {bs = ys} e) =
     record { before = []; after = placedFrom (at + length bs + 1) (cut isLf ys); lines = ap (placedFrom at) (cut-piece isLf bs y ys (n .none) e); skipped = refl }
 
-placed-later : {at next : ℕ} (bs text : List ℕ) {found : Piece} → Skipped bs → next ≡ at + length bs + 1 → Placed next text found → Placed at (bs ++ 10 ∷ text) found
+placed-later : {at next : ℕ} (bs text : List ℕ) {found : Piece} → Skipped bs → next ≡ at + length bs + 1 → Placed next text found
+    → Placed at (bs ++ 10 ∷ text) found
 placed-later {at} bs text k e p =
     record {
       before = record { at = at; bytes = bs } ∷ p .before;
       after = p .after;
-      lines = ap (placedFrom at) (cut-piece isLf bs 10 text (skipped-no-lf k) refl) ∙ ap (λ (ls : List Piece). record { at = at; bytes = bs } ∷ ls) (ap (λ (i : ℕ). placedFrom i (cut isLf text)) (sym e) ∙ p .lines);
+      lines =
+          ap (placedFrom at) (cut-piece isLf bs 10 text (skipped-no-lf k) refl) ∙
+          ap (λ (ls : List Piece). record { at = at; bytes = bs } ∷ ls) (ap (λ (i : ℕ). placedFrom i (cut isLf text)) (sym e) ∙ p .lines);
       skipped = rw (skipped-complete at k) (p .skipped);
     }
 
-placed-of-before : {front : List ℕ} (at next : ℕ) (bs : List ℕ) {rest : List ℕ} → Before front → next ≡ at + length front → NoLf bs → Stops isLf rest → Placed at (front ++ (bs ++ rest)) (record { at = next; bytes = bs })
+placed-of-before : {front : List ℕ} (at next : ℕ) (bs : List ℕ) {rest : List ℕ} → Before front → next ≡ at + length front → NoLf bs
+    → Stops isLf rest → Placed at (front ++ (bs ++ rest)) (record { at = next; bytes = bs })
 placed-of-before at next bs {rest} nothing e n s = subst (λ (i : ℕ). Placed i (bs ++ rest) (record { at = next; bytes = bs })) (omega arith) (placed-now next bs n s)
 placed-of-before at next bs {rest} (line {bs = cs} {rest = front} k b) e n s =
     subst (λ (t : List ℕ). Placed at t (record { at = next; bytes = bs })) (sym (append-assoc cs (10 ∷ front) (bs ++ rest)))
     (placed-later cs (front ++ (bs ++ rest)) k refl (placed-of-before (at + length cs + 1) next bs b (omega (arith, length-append cs (10 ∷ front))) n s))
 
-pub first-line-complete : {front bs rest : List ℕ} → Before front → NoLf bs → Stops isLf rest → isSkipped (record { at = length front; bytes = bs }) ≡ false → FirstLine (front ++ bs ++ rest) (record { at = length front; bytes = bs })
+pub first-line-complete : {front bs rest : List ℕ} → Before front → NoLf bs → Stops isLf rest
+    → isSkipped (record { at = length front; bytes = bs }) ≡ false
+    → FirstLine (front ++ bs ++ rest) (record { at = length front; bytes = bs })
 unfolding linesOf
 first-line-complete {front} {bs} {rest} b n s k =
     let p = placed-of-before 0 (length front) bs b (omega arith) n s in
-    record { before = p .before; after = p .after; lines = ap (λ (t : List ℕ). placedFrom 0 (cut isLf t)) (append-assoc front bs rest) ∙ p .lines; skipped = p .skipped; not-skipped = k }
+    record {
+      before = p .before;
+      after = p .after;
+      lines = ap (λ (t : List ℕ). placedFrom 0 (cut isLf t)) (append-assoc front bs rest) ∙ p .lines;
+      skipped = p .skipped;
+      not-skipped = k;
+    }
 
 -- ---- there is such a line, or none
 
-first-failing : {A : Type 0} (p : A → Bool) (xs : List A) → (all p xs ≡ true) ⊎ ((before : List A) × (x : A) × (after : List A) × (xs ≡ before ++ x ∷ after) × (all p before ≡ true) × (p x ≡ false))
+record Failing {A : Type 0} (p : A → Bool) (xs : List A) : Type 0 where
+  before : List A
+  found : A
+  after : List A
+  is-list : xs ≡ before ++ found ∷ after
+  pass : all p before ≡ true
+  fails : p found ≡ false
+
+first-failing : {A : Type 0} (p : A → Bool) (xs : List A) → (all p xs ≡ true) ⊎ Failing p xs
 first-failing p [] = inl refl
 first-failing {A} p (x ∷ xs) = go (p x) refl (first-failing p xs)
   where
-    go : (t : Bool) → p x ≡ t → (all p xs ≡ true) ⊎ ((before : List A) × (y : A) × (after : List A) × (xs ≡ before ++ y ∷ after) × (all p before ≡ true) × (p y ≡ false)) → (all p (x ∷ xs) ≡ true) ⊎ ((before : List A) × (y : A) × (after : List A) × (x ∷ xs ≡ before ++ y ∷ after) × (all p before ≡ true) × (p y ≡ false))
+    go : (t : Bool) → p x ≡ t → (all p xs ≡ true) ⊎ Failing p xs → (all p (x ∷ xs) ≡ true) ⊎ Failing p (x ∷ xs)
     go true e (inl h) = inl (rw e h)
-    go true e (inr (before, y, after, q, h, k)) = inr (x ∷ before, y, after, ap (λ (zs : List A). x ∷ zs) q, rw e h, k)
-    go false e ih = inr ([], x, xs, refl, refl, e)
+    go true e (inr f) =
+        inr (record {
+          before = x ∷ f .before;
+          found = f .found;
+          after = f .after;
+          is-list = ap (λ (zs : List A). x ∷ zs) (f .is-list);
+          pass = rw e (f .pass);
+          fails = f .fails;
+        })
+    go false e ih = inr (record { before = []; found = x; after = xs; is-list = refl; pass = refl; fails = e })
 
 pub first-line-exists : (text : List ℕ) → (all isSkipped (linesOf text) ≡ true) ⊎ ((found : Piece) × FirstLine text found)
 first-line-exists text = go (first-failing isSkipped (linesOf text))
   where
-    go : (all isSkipped (linesOf text) ≡ true) ⊎ ((before : List Piece) × (x : Piece) × (after : List Piece) × (linesOf text ≡ before ++ x ∷ after) × (all isSkipped before ≡ true) × (isSkipped x ≡ false)) → (all isSkipped (linesOf text) ≡ true) ⊎ ((found : Piece) × FirstLine text found)
+    go : (all isSkipped (linesOf text) ≡ true) ⊎ Failing isSkipped (linesOf text)
+        → (all isSkipped (linesOf text) ≡ true) ⊎ ((found : Piece) × FirstLine text found)
     go (inl h) = inl h
-    go (inr w) = inr (w .1, record { before = w .0; after = w .2; lines = w .3; skipped = w .4; not-skipped = w .5 })
+    go (inr f) = inr (f .found, record { before = f .before; after = f .after; lines = f .is-list; skipped = f .pass; not-skipped = f .fails })

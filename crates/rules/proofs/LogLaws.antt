@@ -3,6 +3,9 @@
 --   log-begun         the row of the first call
 --   log-more          one row more
 --   logged            the log at every progress that a run reaches
+--   stop-log          the row of a stopped call; log-counts: the same log by equal counts
+--   blank-counts      the counts of statuses that are all open
+--   first-metered, chunk-metered     the meter in a call
 --   calls-opens-le    calls begun and candidates left are at most V + 1 together
 --   tries-le          tries are within the budget
 --

@@ -1,7 +1,7 @@
 -- The laws of specs/Meaning and of `Extends` and `Covers` (specs/Models): bytes, values that extend others, storing a value, and
 -- what makes clauses true. `Proper` values have no byte above 2: all values of a run do.
 --
---   Proper, proper-set, proper-assign, proper-of-total     every byte is 0, 1 or 2
+--   proper-set, proper-assign, proper-of-total     every byte is 0, 1 or 2
 --   byte-cases                    a byte that is set is 1 or 2
 --   trueByte-set, trueByte-le     the byte of a literal is 1 or 2
 --   set-cases, valueAt-set-same   what stands at an index after a store; set-elim: what holds of every byte then
@@ -30,15 +30,12 @@ use lib.ListN.{set, length, replicate}
 use lib.Seq.{ext-getD}
 use borrow.Author.Tests.{eqb-true, eqb-false, eq-eqb, ne-eqb}
 use Rattle.rules.specs.Lists.{In}
-use Rattle.rules.specs.Meaning.{Clause, Values, indexOf, valueAt, trueByte, falseByte, isTrue, isUnset, assign, hasTrue, satisfies, Total}
+use Rattle.rules.specs.Meaning.{Clause, Values, indexOf, valueAt, trueByte, falseByte, isTrue, isUnset, assign, hasTrue, satisfies, Proper, Total}
 use Rattle.rules.specs.Closing.{unsets}
 use Rattle.rules.specs.Models.{Extends, Covers}
 use Rattle.rules.proofs.ListLaws.{same-test, and-left, and-right, any-sound, any-complete, all-sound, all-complete, all-append, all-append-of}
 
 -- ---- bytes
-
-pub record Proper (vs : Values) : Type 0 where
-  pub small : (i : ℕ) → valueAt vs i ≤ 2
 
 pub byte-cases : (b : ℕ) → b ≢ 0 → b ≤ 2 → (b ≡ 1) ⊎ (b ≡ 2)
 byte-cases zero h k = absurd (h refl)

@@ -4,14 +4,14 @@
 --   read-refuses, read-refused    refused with a number exactly if the rule of that number says so
 --   reads-exists, reads-unique    there is a result that meets the contract, and no second one
 --   length-entriesAfter           nothing beyond the buffer is written
---   small-texts                   the four texts of document 01, computed
+--   SmallText, smallTexts, answerTo, passes, small-texts     the four texts of document 01, computed
 --
 -- Assumes nothing.
 use mathlib.Core.Path.{_≡_, refl, sym, _∙_, ap, subst, subst₂}
 use mathlib.Core.Logic.{_≢_, _↔_}
 use mathlib.Core.Bool.{Bool, true, _&&_}
 use mathlib.Core.List.{List, [], _∷_, _++_, append-assoc}
-use Prim.Native.Nat.{ℕ, _+_, _-_, _≤_}
+use Prim.Native.Nat.{ℕ, _-_, _≤_}
 use native.Mathlib.Omega.{arith}
 use lib.Dec.{eqb}
 use lib.IntN.{ℤ, pos}
@@ -41,11 +41,18 @@ filled-inj xs ys before n e = sym (front xs) ∙ ap (take (length xs)) e ∙ ap 
         take-append-seam zs (replicate (maxEntries - length zs) (pos 0) ++ drop maxEntries before)
 
 -- A long enough buffer gets V, C and the entry count of a DIMACS text, its entries, zeros, and keeps its rest; and no other text does so.
-pub read-accepts : (text : List ℕ) (before : List ℤ) → maxEntries ≤ length before → (s : Sizes) (es : List ℤ) → Dimacs text (s .vars) (s .clauses) es ↔ ((readingOf text before ≡ record { answer = ReadAnswer.Accepted; vars = s .vars; clauses = s .clauses; entries = length es }) × (entriesAfter text before ≡ filled es before))
+pub read-accepts : (text : List ℕ) (before : List ℤ) → maxEntries ≤ length before → (s : Sizes) (es : List ℤ)
+    → Dimacs text (s .vars) (s .clauses) es
+    ↔ ((readingOf text before ≡ record { answer = ReadAnswer.Accepted; vars = s .vars; clauses = s .clauses; entries = length es }) × (entriesAfter text before ≡ filled es before))
 unfolding readingOf entriesAfter
-read-accepts text before h s es = (λ d. (ap returned (accepted-complete (length before) text h d), ap (λ (j : Judged). written j before) (accepted-complete (length before) text h d)), λ w. go (judge (length before) text) refl (w .0) (w .1))
+read-accepts text before h s es = (
+  λ d. let e = accepted-complete (length before) text h d in (ap returned e, ap (λ (j : Judged). written j before) e),
+  λ w. go (judge (length before) text) refl (w .0) (w .1),
+)
   where
-    go : (j : Judged) → judge (length before) text ≡ j → returned j ≡ record { answer = ReadAnswer.Accepted; vars = s .vars; clauses = s .clauses; entries = length es } → written j before ≡ filled es before → Dimacs text (s .vars) (s .clauses) es
+    go : (j : Judged) → judge (length before) text ≡ j
+        → returned j ≡ record { answer = ReadAnswer.Accepted; vars = s .vars; clauses = s .clauses; entries = length es }
+        → written j before ≡ filled es before → Dimacs text (s .vars) (s .clauses) es
     go (accepted z xs) q r b =
         let same : xs ≡ es = filled-inj xs es before (ap (λ (r : Reading). r .entries) r) b in
         let found : Dimacs text (z .vars) (z .clauses) xs = accepted-sound (length before) text q in
@@ -54,21 +61,25 @@ read-accepts text before h s es = (λ d. (ap returned (accepted-complete (length
     go (refused a) q r b = absurd (accepted-never-answer (length before) text (q ∙ ap refused (ap (λ (r : Reading). r .answer) r)))
 
 -- If the answer is "accepted", the buffer was long enough and the text is a DIMACS text.
-pub read-accepted : (text : List ℕ) (before : List ℤ) → readingOf text before .answer ≡ ReadAnswer.Accepted → (maxEntries ≤ length before) × (s : Sizes) × (es : List ℤ) × Dimacs text (s .vars) (s .clauses) es
+pub read-accepted : (text : List ℕ) (before : List ℤ) → readingOf text before .answer ≡ ReadAnswer.Accepted
+    → (maxEntries ≤ length before) × (s : Sizes) × (es : List ℤ) × Dimacs text (s .vars) (s .clauses) es
 unfolding readingOf
 read-accepted text before e = go (judge (length before) text) refl e
   where
-    whole : {s : Sizes} {es : List ℤ} → Verdict (length before) text (accepted s es) → (maxEntries ≤ length before) × (s : Sizes) × (es : List ℤ) × Dimacs text (s .vars) (s .clauses) es
+    whole : {s : Sizes} {es : List ℤ} → Verdict (length before) text (accepted s es)
+        → (maxEntries ≤ length before) × (s : Sizes) × (es : List ℤ) × Dimacs text (s .vars) (s .clauses) es
     whole {s} {es} (accepts w) = (w .begun .room-fits, s, es, dimacs-of-whole w)
 
-    go : (j : Judged) → judge (length before) text ≡ j → returned j .answer ≡ ReadAnswer.Accepted → (maxEntries ≤ length before) × (s : Sizes) × (es : List ℤ) × Dimacs text (s .vars) (s .clauses) es
+    go : (j : Judged) → judge (length before) text ≡ j → returned j .answer ≡ ReadAnswer.Accepted
+        → (maxEntries ≤ length before) × (s : Sizes) × (es : List ℤ) × Dimacs text (s .vars) (s .clauses) es
     go (accepted s es) q r = whole (verdict-of-judge (length before) text q)
     go (refused a) q r = absurd (accepted-never-answer (length before) text (q ∙ ap refused r))
 
 -- ---- refused
 
 -- A text gets the answer of a refusal exactly if the rule for that answer says so.
-pub read-refuses : (text : List ℕ) (before : List ℤ) (a : ReadAnswer) → a ≢ ReadAnswer.Accepted → (readingOf text before .answer ≡ a) ↔ Refuses (length before) text a
+pub read-refuses : (text : List ℕ) (before : List ℤ) (a : ReadAnswer) → a ≢ ReadAnswer.Accepted
+    → (readingOf text before .answer ≡ a) ↔ Refuses (length before) text a
 unfolding readingOf
 read-refuses text before a n = (λ e. go (judge (length before) text) refl e, λ r. ap (λ (j : Judged). returned j .answer) (refusal-complete (length before) text r))
   where
@@ -77,9 +88,10 @@ read-refuses text before a n = (λ e. go (judge (length before) text) refl e, λ
     go (refused b) q r = refusal-sound (length before) text (q ∙ ap refused r)
 
 -- A refused reading returns no counts, and its buffer is as the answer says.
-pub read-refused : (text : List ℕ) (before : List ℤ) (a : ReadAnswer) → Refuses (length before) text a → (readingOf text before ≡ record { answer = a; vars = 0; clauses = 0; entries = 0 }) × (entriesAfter text before ≡ written (refused a) before)
+pub read-refused : (text : List ℕ) (before : List ℤ) (a : ReadAnswer) → Refuses (length before) text a
+    → (readingOf text before ≡ record { answer = a; vars = 0; clauses = 0; entries = 0 }) × (entriesAfter text before ≡ written (refused a) before)
 unfolding readingOf entriesAfter
-read-refused text before a r = (ap returned (refusal-complete (length before) text r), ap (λ (j : Judged). written j before) (refusal-complete (length before) text r))
+read-refused text before a r = let e = refusal-complete (length before) text r in (ap returned e, ap (λ (j : Judged). written j before) e)
 
 -- ---- the contract
 
@@ -88,7 +100,8 @@ pub reads-exists : (text : List ℕ) (before : List ℤ) → Reads text before (
 reads-exists text before = record { result-is = refl; after-is = refl }
 
 -- No second result meets it.
-pub reads-unique : {text : List ℕ} {before : List ℤ} {r r′ : Reading} {b b′ : List ℤ} → Reads text before r b → Reads text before r′ b′ → (r ≡ r′) × (b ≡ b′)
+pub reads-unique : {text : List ℕ} {before : List ℤ} {r r′ : Reading} {b b′ : List ℤ} → Reads text before r b
+    → Reads text before r′ b′ → (r ≡ r′) × (b ≡ b′)
 reads-unique p q = (p .result-is ∙ sym (q .result-is), p .after-is ∙ sym (q .after-is))
 
 -- ---- the buffer

@@ -23,13 +23,12 @@ use Rattle.rules.specs.declared.RunAnswer.{RunAnswer}
 use Rattle.rules.specs.Lists.{In, count}
 use Rattle.rules.specs.Meaning.{Clause, Values, valueAt, indexOf, trueByte, isTrue, LitUpTo, Model}
 use Rattle.rules.specs.Search.{Call, model, no-model, stopped}
-use Rattle.rules.specs.Models.{Extends, NoModel, Forced, Free, Witness, by-model, by-flip, WitnessOf}
-use Rattle.rules.specs.Run.{Task, Row, Progress, statusAt, opens, isOpen, forcedBy, forcedValue, blank, flipped, rowAfter, afterNone, afterStop, Ended, begun, firstCall, chunkCall, run}
+use Rattle.rules.specs.Models.{Extends, NoModel, Forced, Free, Witness, by-model, by-flip, WitnessOf, NoModelFrom}
+use Rattle.rules.specs.Run.{Task, Row, Progress, statusAt, isForcedTo, opens, isOpen, forcedBy, forcedValue, blank, flipped, rowAfter, afterNone, afterStop, Ended, begun, firstCall, chunkCall, run}
 use Rattle.rules.specs.Answer.{isFree, isForced}
 use Rattle.rules.specs.Log.{LogOf}
 use Rattle.rules.proofs.ListLaws.{never}
 use Rattle.rules.proofs.MeaningLaws.{blank-extends, blank-proper}
-use Rattle.rules.proofs.SearchLaws.{NoModelFrom}
 use Rattle.rules.proofs.KnownLaws.{Known, first-model-is}
 use Rattle.rules.proofs.RunTrace.{Reached, first-model, next-model, next-none, Ends, first-none, first-stopped, settled, next-stopped, known, run-ends, first-none-of}
 use Rattle.rules.proofs.LogLaws.{logged, log-begun, stop-log, calls-opens-le, tries-le, LogAt}
@@ -42,10 +41,6 @@ models-first (next-model {p = p} n m t r o e) = let (rest, q) = models-first r i
 models-first (next-none n t r o e) = models-first r
 
 -- ---- what a progress says
-
--- the status of a literal's variable says that the literal is forced
-abbrev pub isForcedTo : List ℕ → ℤ → Type 0
-isForcedTo ss l = statusAt ss (indexOf l) ≡ forcedBy (trueByte l)
 
 forcedBy-le : (l : ℤ) → 2 ≤ forcedBy (trueByte l)
 forcedBy-le (pos n) = omega arith

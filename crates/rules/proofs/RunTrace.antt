@@ -1,7 +1,11 @@
 -- The run, call by call: what progress it can reach, and how it ends. Laws of the run go by induction on `Reached`.
 --
 --   Reached           progress that a run comes to, with the chunk size that is next
---   Ends              how a run ends
+--   Ends              how a run ends; run-ends: every run ends so
+--   first-is-model, chunk-is-model, first-none-of     what the calls say of the formula's models
+--   known             what is known at every progress that is reached
+--   size-pos          the chunk size is never 0
+--   model-drops, none-forces     every call after the first settles a candidate
 --
 -- Assumes nothing.
 use mathlib.Core.Path.{_≡_, refl, sym, _∙_, ap}
@@ -18,13 +22,13 @@ use lib.Seq.{getD-set-same}
 use borrow.Author.Tests.{eqb-true, eqb-false, eq-eqb, ne-eqb}
 use Rattle.rules.specs.declared.RunAnswer.{RunAnswer}
 use Rattle.rules.specs.Lists.{In, any, all}
-use Rattle.rules.specs.Meaning.{Clause, Values, valueAt, indexOf, trueByte, negated, isTrue, hasTrue, satisfies, Total, Model}
+use Rattle.rules.specs.Meaning.{Clause, Values, valueAt, indexOf, trueByte, negated, isTrue, hasTrue, satisfies, Total, Model, Proper}
 use Rattle.rules.specs.Search.{Call, model, no-model, stopped, callOn}
-use Rattle.rules.specs.Models.{Extends, Witness, by-model, by-flip}
+use Rattle.rules.specs.Models.{Extends, Witness, by-model, by-flip, LeastModel, NoModelFrom}
 use Rattle.rules.specs.Run.{Task, Row, Progress, statusAt, opens, literalAt, candidatesFrom, freedFrom, differs, otherByte, flipped, canFlip, compared, flips, filtered, forcedBy, forceFirst, blank, forcedValue, forcedValues, chunkOf, constraint, chunkCall, afterModel, afterNone, afterStop, Ended, endedBy, begun, onCall, onOpen, chunksIn, chunks, onFirst, firstCall, run}
 use Rattle.rules.proofs.ListLaws.{both, never, any-sound, any-complete, and-left}
-use Rattle.rules.proofs.MeaningLaws.{Proper, set-cases, blank-proper, blank-extends, satisfies-append, satisfies-left, satisfies-right}
-use Rattle.rules.proofs.SearchLaws.{Says, LeastModel, NoModelFrom, callOn-says}
+use Rattle.rules.proofs.MeaningLaws.{set-cases, blank-proper, blank-extends, satisfies-append, satisfies-left, satisfies-right}
+use Rattle.rules.proofs.SearchLaws.{Says, callOn-says}
 use Rattle.rules.proofs.KnownLaws.{Known, first-model-is, otherByte-valued, known-more, known-filtered, known-none, proper-forcedValues}
 use Rattle.rules.proofs.StatusLaws.{freed-counts, opens-freed-lt, ForcedMore, forceFirst-counts, length-freedFrom, freed-at, candidate-open, literalAt-true, literalAt-negated, length-forceFirst, forceFirst-at, length-forcedValues, forcedValues-at, forcedValue-forcedBy, forcedValue-le}
 

@@ -1,8 +1,9 @@
 -- The laws of specs/Search: what each end of a call says of the models, and what the meter of tries shows. How a call goes on
 -- stands in CallLaws, whose names go on from here.
 --
---   LeastModel, NoModelFrom, Says what an end of a call says
+--   Says                          what an end of a call says
 --   callOn-says                   a model found is the least; where none is found there is none
+--   callOn-model, callOn-none     the same, where the end is known
 --   Metered, callOn-tries         the meter goes up, and not over the budget
 --   callOn-stopped                a call stops only where the budget is spent
 --
@@ -18,29 +19,18 @@ use lib.ListN.{set, length, length-set}
 use borrow.Author.Tests.{eqb-true, ltb-true, ltb-false}
 use Rattle.rules.specs.declared.ClauseState.{ClauseState}
 use Rattle.rules.specs.declared.ClauseState.the-variants.{False, Unit, True, Undecided}
-use Rattle.rules.specs.Meaning.{Clause, Values, indexOf, valueAt, hasTrue, satisfies, Total}
+use Rattle.rules.specs.Meaning.{Clause, Values, indexOf, valueAt, hasTrue, satisfies, Total, Proper}
 use Rattle.rules.specs.Closing.{stateOf, Closed, closing, unsets}
-use Rattle.rules.specs.Models.{Extends, NotAfter, same, before}
+use Rattle.rules.specs.Models.{Extends, NotAfter, same, before, LeastModel, NoModelFrom}
 use Rattle.rules.specs.Visits.{Quiet}
 use Rattle.rules.specs.Search.{Call, model, no-model, stopped, triesOf, ifLeft, try, orElse, onClosed, callOn}
 use Rattle.rules.proofs.ListLaws.{all-complete}
-use Rattle.rules.proofs.MeaningLaws.{Proper, extends-trans, extends-set, set-extends, valueAt-set-extends, total-of-set}
+use Rattle.rules.proofs.MeaningLaws.{extends-trans, extends-set, set-extends, valueAt-set-extends, total-of-set}
 use Rattle.rules.proofs.ClosingLaws.{Means, means, Calm, calm-of-quiet, Keeps, closing-sound}
 use Rattle.rules.proofs.CallLaws.{Onward, clashes, all-set, tries}
 pub use Rattle.rules.proofs.CallLaws.{Lowest, lowestUnset-sound, Tried, onward, onClosed-cong, callOn-rec, goOn-enough, callOn-next}
 
 -- ---- what the end of a call says
-
--- a model of F that extends vs, and comes after no other
-pub record LeastModel (F : List Clause) (vs m : Values) : Type 0 where
-  pub ext : Extends vs m
-  pub len : length m ≡ length vs
-  pub total : Total m
-  pub all-true : satisfies m F ≡ true
-  pub least : (d : Values) → Extends vs d → Total d → satisfies d F ≡ true → NotAfter m d
-
-pub record NoModelFrom (F : List Clause) (vs : Values) : Type 0 where
-  pub none-from : (m : Values) → Extends vs m → Total m → satisfies m F ≡ true → ⊥
 
 abbrev pub Says : List Clause → Values → Call → Type 0
 Says F vs (model m t) = LeastModel F vs m
@@ -132,6 +122,12 @@ callOn-says budget F vs t p = callOn-rec budget F (λ ws f. Proper ws → (u : �
           where
             each : (b : ℕ) → b < 2 → (n : ℕ) → Says F (set ws i (suc b)) (try budget go-on ws i (suc b) n)
             each b h n = paid (set ws i (suc b)) n (tried b h) (ltb n budget)
+
+pub callOn-model : (budget : ℕ) (F : List Clause) (vs : Values) (t : ℕ) (m : Values) (u : ℕ) → Proper vs → callOn budget F vs t ≡ model m u → LeastModel F vs m
+callOn-model budget F vs t m u p e = rw e at (callOn-says budget F vs t p)
+
+pub callOn-none : (budget : ℕ) (F : List Clause) (vs : Values) (t u : ℕ) → Proper vs → callOn budget F vs t ≡ no-model u → NoModelFrom F vs
+callOn-none budget F vs t u p e = rw e at (callOn-says budget F vs t p)
 
 -- ---- the meter
 

@@ -19,13 +19,13 @@ use lib.IntN.{ℤ, pos, negsuc}
 use lib.ListN.{length, replicate, length-replicate, List·getD-eq-default}
 use borrow.Author.Tests.{eqb-true, ne-eqb, ltb-true, ltb-false}
 use Rattle.rules.specs.Lists.{In, eqz}
-use Rattle.rules.specs.Meaning.{Clause, Values, indexOf, valueAt, trueByte, falseByte, isTrue}
+use Rattle.rules.specs.Meaning.{Clause, Values, indexOf, valueAt, trueByte, falseByte, isTrue, Proper}
 use Rattle.rules.specs.Closing.{closing, unsets}
 use Rattle.rules.specs.Models.{Extends, Covers}
 use Rattle.rules.specs.Search.{Call, onClosed, callOn}
 use Rattle.rules.specs.Units.{units}
 use Rattle.rules.proofs.ListLaws.{both, never, eqz-sound, eqz-complete}
-use Rattle.rules.proofs.MeaningLaws.{Proper, trueByte-set, extends-refl, extends-trans, isTrue-mono, false-byte, blank-proper, blank-extends}
+use Rattle.rules.proofs.MeaningLaws.{trueByte-set, extends-refl, extends-trans, isTrue-mono, false-byte, blank-proper, blank-extends}
 use Rattle.rules.proofs.ClosingOrder.{Derived, given, last, derived-given, Refuted, closing-same, closing-order}
 use Rattle.rules.proofs.UnitsLaws.{LitOf, units-complete, units-true}
 use Rattle.rules.proofs.SearchLaws.{Tried, onClosed-cong, callOn-rec, callOn-next}

@@ -1,6 +1,14 @@
 -- The laws of statuses (specs/Run): what compare, flip and a chunk without a model do to them, candidates, and the values of the
 -- forced literals.
 --
+--   Freed, freed-counts           freeing leaves the forced, and what is no longer open is free
+--   length-freedFrom, freed-at    what an index holds after freeing; opens-freed-lt: one that passes is no longer open
+--   length-candidates, candidate-open     a candidate is the first model's literal of an open variable
+--   literalAt-true, literalAt-negated     the literal at an index, and its negation
+--   ForcedMore, forceFirst-counts n open variables become forced, and nothing else changes
+--   length-forceFirst, forceFirst-at      what an index holds then
+--   length-forcedValues, forcedValues-at, forcedValue-forcedBy, forcedValue-le     the values of the forced literals
+--
 -- Assumes nothing.
 use mathlib.Core.Path.{_≡_, refl, sym, _∙_, ap}
 use mathlib.Core.Logic.{_≢_, _⊎_, inl, inr}

@@ -16,9 +16,8 @@ use lib.IntN.{ℤ, pos, negsuc}
 use lib.ListN.{length}
 use borrow.Author.Tests.{eq-eqb}
 use Rattle.rules.specs.Lists.{In}
-use Rattle.rules.specs.Meaning.{Clause, Values, indexOf, valueAt, trueByte, isTrue}
+use Rattle.rules.specs.Meaning.{Clause, Values, indexOf, valueAt, trueByte, isTrue, Proper}
 use Rattle.rules.specs.Units.{unitAt, units}
-use Rattle.rules.proofs.MeaningLaws.{Proper}
 
 pub record LitOf (i b : ℕ) (l : ℤ) : Type 0 where
   pub index : indexOf l ≡ i

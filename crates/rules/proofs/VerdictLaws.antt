@@ -1,8 +1,9 @@
 -- The judgement of a whole text (specs/Reading): each text is refused by a rule of specs/Refusals or is a whole text, and the judgement
 -- says which. GrammarLaws and RefusalLaws read their theorems off this.
 --
+--   tokensOf                      the tokens behind a line
 --   Whole                         a text with nothing to refuse
---   Verdict                       refused by a rule, or whole
+--   Verdict, Judgement            refused by a rule, or whole; a judgement with its verdict
 --   judge-headed                  a text with a header is judged by its tokens
 --   verdict-exists                each text has a verdict
 --   judge-of-verdict, verdict-of-judge     the judgement is the verdict
@@ -10,7 +11,7 @@
 -- Assumes nothing.
 use mathlib.Core.Path.{_≡_, refl, sym, _∙_, ap, subst}
 use mathlib.Core.Logic.{_⊎_, inl, inr}
-use mathlib.Core.Bool.{Bool, true, false, _&&_, _||_}
+use mathlib.Core.Bool.{true, false}
 use mathlib.Core.List.{List, [], _∷_, _++_}
 use mathlib.Core.Option.{Option, none, some}
 use Prim.Native.Nat.{ℕ, _+_, _≤_, _<_}
@@ -24,12 +25,13 @@ use Rattle.rules.specs.Lists.{all, count}
 use Rattle.rules.specs.Numbers.{maxText, maxVars, maxClauses, maxEntries}
 use Rattle.rules.specs.Text.{Piece, Sizes, linesOf, tokensFrom, isSkipped, headerOf}
 use Rattle.rules.specs.Reading.{Judged, accepted, refused, isZero, behind, fits, judgeEnd, judgeTokens, judgeHeader, judgeLines, judge}
-use Rattle.rules.specs.Grammar.{Header, Token}
+use Rattle.rules.specs.Grammar.{Header}
 use Rattle.rules.specs.Refusals.{Begun, FirstLine, Headed, Fine, AtToken, Refuses, buffer-short, text-long, no-header, bad-header, header-large, bad-token, token-after-last, variable-above, entry-over, ends-early}
 use Rattle.rules.proofs.ListLaws.{not-true, and-left, and-right}
-use Rattle.rules.proofs.HeaderLaws.{not-none, header-sound, header-complete, header-none}
+use Rattle.rules.proofs.TokenLaws.{not-none}
+use Rattle.rules.proofs.HeaderLaws.{header-sound, header-complete, header-none}
 use Rattle.rules.proofs.LineLaws.{first-line-sound, first-line-exists}
-use Rattle.rules.proofs.JudgeLaws.{at-most, Passes, count-of-passes, fine-of-passes, passes-of-fine, Stop, bad, after-last, above, over, Stopped, tokens-cases, withEntries, withEntries-refused, withEntries-accepted, judgeTokens-end, judgeTokens-stopped}
+use Rattle.rules.proofs.JudgeLaws.{le-or-lt, Passes, count-of-passes, fine-of-passes, passes-of-fine, Stop, bad, after-last, above, over, Stopped, tokens-cases, withEntries, withEntries-refused, withEntries-accepted, judgeTokens-end, judgeTokens-stopped}
 
 abbrev pub tokensOf : List ℕ → Piece → List Piece
 tokensOf text line = tokensFrom (behind line) (drop (behind line) text)
@@ -46,29 +48,37 @@ pub data Verdict (room : ℕ) (text : List ℕ) : Judged → Type 0 where
   refuses : {a : ReadAnswer} → Refuses room text a → Verdict room text (refused a)
   accepts : {s : Sizes} {es : List ℤ} → Whole room text s es → Verdict room text (accepted s es)
 
+-- a judgement that is the verdict
+abbrev pub Judgement : ℕ → List ℕ → Type 0
+Judgement room text = (j : Judged) × Verdict room text j
+
 -- ---- lines and the header
 
 judge-begun : {room : ℕ} {text : List ℕ} → Begun room text → judge room text ≡ judgeLines text (linesOf text)
 unfolding judge
 judge-begun {room} {text} b = rw (le-ltb room maxEntries (b .room-fits), le-ltb maxText (length text) (b .text-fits))
 
-judgeLines-skipped : (text : List ℕ) (ls : List Piece) → all isSkipped ls ≡ true → judgeLines text ls ≡ refused (ReadAnswer.BadHeader (length text))
+judgeLines-skipped : (text : List ℕ) (ls : List Piece) → all isSkipped ls ≡ true
+    → judgeLines text ls ≡ refused (ReadAnswer.BadHeader (length text))
 unfolding judgeLines
 judgeLines-skipped text [] h = refl
 judgeLines-skipped text (l ∷ ls) h =
     rw (and-left (isSkipped l) (all isSkipped ls) h) (judgeLines-skipped text ls (and-right (isSkipped l) (all isSkipped ls) h))
 
-judgeLines-first : (text : List ℕ) (before : List Piece) (line : Piece) (after : List Piece) → all isSkipped before ≡ true → isSkipped line ≡ false → judgeLines text (before ++ line ∷ after) ≡ judgeHeader (headerOf (line .bytes)) text line
+judgeLines-first : (text : List ℕ) (before : List Piece) (line : Piece) (after : List Piece) → all isSkipped before ≡ true
+    → isSkipped line ≡ false → judgeLines text (before ++ line ∷ after) ≡ judgeHeader (headerOf (line .bytes)) text line
 unfolding judgeLines
 judgeLines-first text [] line after h k = rw k
 judgeLines-first text (l ∷ ls) line after h k =
     rw (and-left (isSkipped l) (all isSkipped ls) h) (judgeLines-first text ls line after (and-right (isSkipped l) (all isSkipped ls) h) k)
 
-judge-first : {room : ℕ} {text : List ℕ} {line : Piece} → Begun room text → FirstLine text line → judge room text ≡ judgeHeader (headerOf (line .bytes)) text line
+judge-first : {room : ℕ} {text : List ℕ} {line : Piece} → Begun room text → FirstLine text line
+    → judge room text ≡ judgeHeader (headerOf (line .bytes)) text line
 judge-first {text} {line} b f =
     judge-begun b ∙ ap (judgeLines text) (f .lines) ∙ judgeLines-first text (f .before) line (f .after) (f .skipped) (f .not-skipped)
 
-pub judge-headed : {room : ℕ} {text : List ℕ} {line : Piece} {s : Sizes} → Begun room text → Headed text line s → judge room text ≡ judgeTokens s (length text) 0 0 (tokensOf text line)
+pub judge-headed : {room : ℕ} {text : List ℕ} {line : Piece} {s : Sizes} → Begun room text → Headed text line s
+    → judge room text ≡ judgeTokens s (length text) 0 0 (tokensOf text line)
 judge-headed {text} {line} {s} b h =
     judge-first b (h .first-line) ∙ ap (λ (o : Option Sizes). judgeHeader o text line) (header-complete (h .is-header)) ∙
     rw (le-leb (s .vars) maxVars (h .vars-fit), le-leb (s .clauses) maxClauses (h .clauses-fit))
@@ -76,16 +86,33 @@ judge-headed {text} {line} {s} b h =
 -- ---- the judgement is the verdict
 
 too-large : (v c : ℕ) → (maxVars < v) ⊎ (maxClauses < c) → fits (record { vars = v; clauses = c }) ≡ false
-too-large v c (inl h) = not-true (fits (record { vars = v; clauses = c })) (λ e. absurd (omega (arith, leb-true v maxVars (and-left (leb v maxVars) (leb c maxClauses) e))))
-too-large v c (inr h) = not-true (fits (record { vars = v; clauses = c })) (λ e. absurd (omega (arith, leb-true c maxClauses (and-right (leb v maxVars) (leb c maxClauses) e))))
+too-large v c k =
+    not-true (fits (record { vars = v; clauses = c }))
+    (λ e. go k (leb-true v maxVars (and-left (leb v maxVars) (leb c maxClauses) e)) (leb-true c maxClauses (and-right (leb v maxVars) (leb c maxClauses) e)))
+  where
+    go : (maxVars < v) ⊎ (maxClauses < c) → v ≤ maxVars → c ≤ maxClauses → ⊥
+    go (inl h) a b = omega arith
+    go (inr h) a b = omega arith
 
 module _ {room : ℕ} {text : List ℕ} where
-  judge-at-token : {s : Sizes} {es : List ℤ} {t : Piece} {a : ReadAnswer} → AtToken room text s es t → Stop s (0 + count isZero es) (0 + length es) t a → judge room text ≡ refused a
+  judge-at-token : {s : Sizes} {es : List ℤ} {t : Piece} {a : ReadAnswer} → AtToken room text s es t
+      → Stop s (0 + count isZero es) (0 + length es) t a → judge room text ≡ refused a
   judge-at-token {s} {es} {t} {a} w h =
       judge-headed (w .begun) (w .headed) ∙
-      judgeTokens-stopped s (length text) (record { before = w .before; token = t; after = w .after; es = es; answer = a; tokens = w .tokens; passes = passes-of-fine (w .fine); stop = h })
+      judgeTokens-stopped s (length text)
+      (record {
+        before = w .before;
+        token = t;
+        after = w .after;
+        es = es;
+        answer = a;
+        tokens = w .tokens;
+        passes = passes-of-fine (w .fine);
+        stop = h;
+      })
 
-  judge-end : {line : Piece} {s : Sizes} {es : List ℤ} → Begun room text → Headed text line s → Fine s (tokensOf text line) es → judge room text ≡ withEntries es (judgeEnd (ltb (count isZero es) (s .clauses)) s (length text))
+  judge-end : {line : Piece} {s : Sizes} {es : List ℤ} → Begun room text → Headed text line s → Fine s (tokensOf text line) es
+      → judge room text ≡ withEntries es (judgeEnd (ltb (count isZero es) (s .clauses)) s (length text))
   judge-end {s} b h f = judge-headed b h ∙ judgeTokens-end s (length text) (passes-of-fine f)
 
   judge-of-refuses : {a : ReadAnswer} → Refuses room text a → judge room text ≡ refused a
@@ -112,7 +139,8 @@ module _ {room : ℕ} {text : List ℕ} where
 -- ---- each text has a verdict
 
 module _ (room : ℕ) (text : List ℕ) where
-  verdict-of-stopped : (line : Piece) (s : Sizes) → Begun room text → Headed text line s → Stopped s 0 0 (tokensOf text line) → (j : Judged) × Verdict room text j
+  verdict-of-stopped : (line : Piece) (s : Sizes) → Begun room text → Headed text line s → Stopped s 0 0 (tokensOf text line)
+      → Judgement room text
   verdict-of-stopped line s b h d = (refused (d .answer), refuses (go (d .stop)))
     where
       at-token : AtToken room text s (d .es) (d .token)
@@ -124,41 +152,44 @@ module _ (room : ℕ) (text : List ℕ) where
       go (above l w k u) = variable-above s (d .es) (d .token) l at-token w (omega arith) u
       go (over l w k u m) = entry-over s (d .es) (d .token) l at-token w (omega arith) u (omega (arith, fine-of-passes (d .passes) .most))
 
-  verdict-of-end : (line : Piece) (s : Sizes) (es : List ℤ) → Begun room text → Headed text line s → Passes s 0 0 (tokensOf text line) es → (s .clauses ≤ count isZero es) ⊎ (count isZero es < s .clauses) → (j : Judged) × Verdict room text j
+  verdict-of-end : (line : Piece) (s : Sizes) (es : List ℤ) → Begun room text → Headed text line s
+      → Passes s 0 0 (tokensOf text line) es → (s .clauses ≤ count isZero es) ⊎ (count isZero es < s .clauses) → Judgement room text
   verdict-of-end line s es b h p (inl k) =
       (accepted s es, accepts (record { begun = b; line = line; headed = h; fine = fine-of-passes p; exactly = omega (arith, count-of-passes p (omega arith)) }))
   verdict-of-end line s es b h p (inr k) = (refused (ReadAnswer.EndsEarly (length text)), refuses (ends-early line s es b h (fine-of-passes p) k))
 
-  verdict-of-headed : (line : Piece) (s : Sizes) → Begun room text → Headed text line s → (j : Judged) × Verdict room text j
+  verdict-of-headed : (line : Piece) (s : Sizes) → Begun room text → Headed text line s → Judgement room text
   verdict-of-headed line s b h = go (tokens-cases s 0 0 (tokensOf text line))
     where
-      go : ((es : List ℤ) × Passes s 0 0 (tokensOf text line) es) ⊎ Stopped s 0 0 (tokensOf text line) → (j : Judged) × Verdict room text j
-      go (inl p) = verdict-of-end line s (p .0) b h (p .1) (at-most (s .clauses) (count isZero (p .0)))
+      go : ((es : List ℤ) × Passes s 0 0 (tokensOf text line) es) ⊎ Stopped s 0 0 (tokensOf text line) → Judgement room text
+      go (inl p) = verdict-of-end line s (p .0) b h (p .1) (le-or-lt (s .clauses) (count isZero (p .0)))
       go (inr d) = verdict-of-stopped line s b h d
 
-  verdict-of-first : (line : Piece) → Begun room text → FirstLine text line → (j : Judged) × Verdict room text j
+  verdict-of-first : (line : Piece) → Begun room text → FirstLine text line → Judgement room text
   verdict-of-first line b f = go (headerOf (line .bytes)) refl
     where
-      large : (s : Sizes) → Header (line .bytes) (s .vars) (s .clauses) → (maxVars < s .vars) ⊎ (maxClauses < s .clauses) → (j : Judged) × Verdict room text j
+      large : (s : Sizes) → Header (line .bytes) (s .vars) (s .clauses) → (maxVars < s .vars) ⊎ (maxClauses < s .clauses)
+          → Judgement room text
       large s h k = (refused (ReadAnswer.HeaderLarge (line .at)), refuses (header-large line (s .vars) (s .clauses) b f h k))
 
-      sizes : (s : Sizes) → Header (line .bytes) (s .vars) (s .clauses) → (s .vars ≤ maxVars) ⊎ (maxVars < s .vars) → (s .clauses ≤ maxClauses) ⊎ (maxClauses < s .clauses) → (j : Judged) × Verdict room text j
+      sizes : (s : Sizes) → Header (line .bytes) (s .vars) (s .clauses) → (s .vars ≤ maxVars) ⊎ (maxVars < s .vars)
+          → (s .clauses ≤ maxClauses) ⊎ (maxClauses < s .clauses) → Judgement room text
       sizes s h (inr k) c = large s h (inl k)
       sizes s h (inl v) (inr k) = large s h (inr k)
       sizes s h (inl v) (inl c) = verdict-of-headed line s b (record { first-line = f; is-header = h; vars-fit = v; clauses-fit = c })
 
-      go : (o : Option Sizes) → headerOf (line .bytes) ≡ o → (j : Judged) × Verdict room text j
+      go : (o : Option Sizes) → headerOf (line .bytes) ≡ o → Judgement room text
       go none e = (refused (ReadAnswer.BadHeader (line .at)), refuses (bad-header line b f (λ v c h. not-none (header-complete h) e)))
-      go (some s) e = sizes s (header-sound (line .bytes) e (first-line-sound f .one-line)) (at-most (s .vars) maxVars) (at-most (s .clauses) maxClauses)
+      go (some s) e = sizes s (header-sound (line .bytes) e (first-line-sound f .one-line)) (le-or-lt (s .vars) maxVars) (le-or-lt (s .clauses) maxClauses)
 
-  pub verdict-exists : (j : Judged) × Verdict room text j
-  verdict-exists = go (at-most maxEntries room) (at-most (length text) maxText)
+  pub verdict-exists : Judgement room text
+  verdict-exists = go (le-or-lt maxEntries room) (le-or-lt (length text) maxText)
     where
-      lines : Begun room text → (all isSkipped (linesOf text) ≡ true) ⊎ ((line : Piece) × FirstLine text line) → (j : Judged) × Verdict room text j
+      lines : Begun room text → (all isSkipped (linesOf text) ≡ true) ⊎ ((line : Piece) × FirstLine text line) → Judgement room text
       lines b (inl h) = (refused (ReadAnswer.BadHeader (length text)), refuses (no-header b h))
       lines b (inr f) = verdict-of-first (f .0) b (f .1)
 
-      go : (maxEntries ≤ room) ⊎ (room < maxEntries) → (length text ≤ maxText) ⊎ (maxText < length text) → (j : Judged) × Verdict room text j
+      go : (maxEntries ≤ room) ⊎ (room < maxEntries) → (length text ≤ maxText) ⊎ (maxText < length text) → Judgement room text
       go (inr h) t = (refused ReadAnswer.BufferShort, refuses (buffer-short h))
       go (inl h) (inr k) = (refused ReadAnswer.TextLong, refuses (text-long h k))
       go (inl h) (inl k) = lines (record { room-fits = h; text-fits = k }) (first-line-exists text)

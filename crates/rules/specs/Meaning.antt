@@ -82,6 +82,10 @@ hasTrue vs cl = any (isTrue vs) cl
 abbrev pub satisfies : Values → List Clause → Bool
 satisfies vs F = all (hasTrue vs) F
 
+-- every byte is 0, 1 or 2
+pub record Proper (vs : Values) : Type 0 where
+  pub small : (i : ℕ) → valueAt vs i ≤ 2
+
 -- ---- models
 
 -- every variable has a value

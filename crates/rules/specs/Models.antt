@@ -5,8 +5,9 @@ use mathlib.Core.Bool.{true}
 use mathlib.Core.List.{List, _∷_}
 use Prim.Native.Nat.{ℕ, _<_}
 use lib.IntN.{ℤ}
+use lib.ListN.{length}
 use Rattle.rules.specs.Lists.{In}
-use Rattle.rules.specs.Meaning.{Clause, Values, valueAt, isTrue, Model}
+use Rattle.rules.specs.Meaning.{Clause, Values, valueAt, isTrue, satisfies, Total, Model}
 use Rattle.rules.specs.Run.{flipped}
 
 -- m has the value of vs wherever vs is set
@@ -17,6 +18,18 @@ pub record Extends (vs m : Values) : Type 0 where
 pub data NotAfter (m d : Values) : Type 0 where
   same : ((i : ℕ) → valueAt m i ≡ valueAt d i) → NotAfter m d
   before : (i : ℕ) → ((j : ℕ) → j < i → valueAt m j ≡ valueAt d j) → valueAt m i ≡ 1 → valueAt d i ≡ 2 → NotAfter m d
+
+-- a model of F that extends vs, and comes after no other
+pub record LeastModel (F : List Clause) (vs m : Values) : Type 0 where
+  pub ext : Extends vs m
+  pub len : length m ≡ length vs
+  pub total : Total m
+  pub all-true : satisfies m F ≡ true
+  pub least : (d : Values) → Extends vs d → Total d → satisfies d F ≡ true → NotAfter m d
+
+-- no model of F extends vs
+pub record NoModelFrom (F : List Clause) (vs : Values) : Type 0 where
+  pub none-from : (m : Values) → Extends vs m → Total m → satisfies m F ≡ true → ⊥
 
 pub record NoModel (n : ℕ) (F : List Clause) : Type 0 where
   pub none : (m : Values) → Model n F m → ⊥

@@ -1,10 +1,12 @@
 -- Document 01, "The table program": the bytes that are printed for a text. Assumes nothing.
 use mathlib.Core.Path.{_≡_}
+use mathlib.Core.Bool.{Bool, true, false}
 use mathlib.Core.List.{List, [], _∷_, _++_}
 use mathlib.Core.Option.{Option, none, some}
 use Prim.Native.Nat.{ℕ, zero, suc, _-_}
 use lib.IntN.{ℤ}
-use lib.ListN.{length, replicate}
+use lib.Dec.{leb}
+use lib.ListN.{length, drop, replicate}
 use Rattle.rules.specs.declared.RunAnswer.{RunAnswer}
 use Rattle.rules.specs.declared.Report.{Report}
 use Rattle.rules.specs.Numbers.{maxEntries, readNumber, readPlace, runNumber, runPlace}
@@ -84,17 +86,17 @@ statusLines v (s ∷ ss) = decimal v ++ statusWords s ++ 10 ∷ statusLines (suc
 
 -- ---- the table: only the first line after 20, only the refusal if there is one
 
+abbrev pub tableBy : RunAnswer → ℕ → Report → List ℕ → List ℕ
+tableBy RunAnswer.Settled vars r ss = answerLine vars r ++ statusLines 1 ss
+tableBy RunAnswer.Stopped vars r ss = answerLine vars r ++ statusLines 1 ss
+tableBy RunAnswer.NoModel vars r ss = answerLine vars r
+tableBy RunAnswer.BufferShort vars r ss = refusedLine (runNumber (r .answer)) (runPlace (r .answer))
+tableBy RunAnswer.OutOfLimits vars r ss = refusedLine (runNumber (r .answer)) (runPlace (r .answer))
+tableBy (RunAnswer.BadList at) vars r ss = refusedLine (runNumber (r .answer)) (runPlace (r .answer))
+tableBy (RunAnswer.VariableAbove at) vars r ss = refusedLine (runNumber (r .answer)) (runPlace (r .answer))
+
 abbrev pub tableOfRun : ℕ → Report → List ℕ → List ℕ
-tableOfRun vars r ss = byAnswer (r .answer)
-  where
-    byAnswer : RunAnswer → List ℕ
-    byAnswer RunAnswer.Settled = answerLine vars r ++ statusLines 1 ss
-    byAnswer RunAnswer.Stopped = answerLine vars r ++ statusLines 1 ss
-    byAnswer RunAnswer.NoModel = answerLine vars r
-    byAnswer RunAnswer.BufferShort = refusedLine (runNumber (r .answer)) (runPlace (r .answer))
-    byAnswer RunAnswer.OutOfLimits = refusedLine (runNumber (r .answer)) (runPlace (r .answer))
-    byAnswer (RunAnswer.BadList at) = refusedLine (runNumber (r .answer)) (runPlace (r .answer))
-    byAnswer (RunAnswer.VariableAbove at) = refusedLine (runNumber (r .answer)) (runPlace (r .answer))
+tableOfRun vars r ss = tableBy (r .answer) vars r ss
 
 -- budget 1,000,000 and chunk limit 16, with buffers of just the size
 abbrev pub tableGiven : Sizes → List ℤ → Given
@@ -115,3 +117,21 @@ tableOfJudged (accepted s es) =
 
 unfoldable pub tableOf : List ℕ → List ℕ
 tableOf text = tableOfJudged (judge maxEntries text)
+
+-- ---- what a printing promises of its result and of the buffer: the bytes of the table, and how many they are; nothing, and 0,
+-- where the buffer is shorter than any table may be long
+
+abbrev pub maxTable : ℕ
+maxTable = 4096
+
+abbrev pub countIfRoom : Bool → List ℕ → ℕ
+countIfRoom true table = length table
+countIfRoom false table = 0
+
+abbrev pub bytesIfRoom : Bool → List ℕ → List ℕ → List ℕ
+bytesIfRoom true table before = table ++ drop (length table) before
+bytesIfRoom false table before = before
+
+pub record Prints (text before : List ℕ) (count : ℕ) (after : List ℕ) : Type 0 where
+  pub count-is : count ≡ countIfRoom (leb maxTable (length before)) (tableOf text)
+  pub after-is : after ≡ bytesIfRoom (leb maxTable (length before)) (tableOf text) before

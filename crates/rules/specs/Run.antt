@@ -1,4 +1,5 @@
 -- Document 01, "Run": candidates, compare, flip, chunks, and the rows of the log. Assumes nothing.
+use mathlib.Core.Path.{_≡_}
 use mathlib.Core.Bool.{Bool, true, false, not}
 use mathlib.Core.List.{List, [], _∷_, _++_, map}
 use Prim.Native.Nat.{ℕ, zero, suc, _+_, _-_, min}
@@ -8,7 +9,7 @@ use lib.ListN.{length, getD, set, take, replicate}
 use Rattle.rules.specs.declared.Outcome.{Outcome}
 use Rattle.rules.specs.declared.RunAnswer.{RunAnswer}
 use Rattle.rules.specs.Lists.{count}
-use Rattle.rules.specs.Meaning.{Clause, Values, valueAt, negated, satisfies}
+use Rattle.rules.specs.Meaning.{Clause, Values, indexOf, trueByte, valueAt, negated, satisfies}
 use Rattle.rules.specs.Search.{Call, model, no-model, stopped, callOn}
 
 -- what a run is about
@@ -104,6 +105,10 @@ abbrev pub forcedBy : ℕ → ℕ
 forcedBy zero = 3
 forcedBy (suc zero) = 3
 forcedBy (suc (suc b)) = 2
+
+-- the status of a literal's variable says that the literal is forced
+abbrev pub isForcedTo : List ℕ → ℤ → Type 0
+isForcedTo ss l = statusAt ss (indexOf l) ≡ forcedBy (trueByte l)
 
 -- the lowest n open variables are forced to their values in the first model
 abbrev pub forceFirst : Values → List ℕ → ℕ → List ℕ

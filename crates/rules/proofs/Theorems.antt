@@ -1,0 +1,167 @@
+-- The theorems that we promise, one sentence each. Their statements speak of models, texts and tables; what they name stands in
+-- specs/, and their proofs in the files that the `use` lines name. Assumes nothing.
+use mathlib.Core.Path.{_≡_}
+use mathlib.Core.Logic.{_≢_, _⊎_, _↔_}
+use mathlib.Core.Bool.{true}
+use mathlib.Core.List.{List, [], _∷_, _++_}
+use mathlib.Core.Option.{none, some}
+use Prim.Native.Nat.{ℕ, _+_, _≤_, _<_}
+use lib.IntN.{ℤ}
+use lib.ListN.{length, take, drop, replicate}
+use Rattle.rules.specs.declared.ReadAnswer.{ReadAnswer}
+use Rattle.rules.specs.declared.Reading.{Reading}
+use Rattle.rules.specs.declared.RunAnswer.{RunAnswer}
+use Rattle.rules.specs.declared.Report.{Report}
+use Rattle.rules.specs.declared.ClauseState.the-variants.{False}
+use Rattle.rules.specs.Lists.{In, count}
+use Rattle.rules.specs.Numbers.{maxEntries}
+use Rattle.rules.specs.Text.{Sizes}
+use Rattle.rules.specs.Reading.{readingOf, filled, entriesAfter, Reads}
+use Rattle.rules.specs.Grammar.{Dimacs}
+use Rattle.rules.specs.Refusals.{Refuses}
+use Rattle.rules.specs.Plain.{plain, entriesOf, Within}
+use Rattle.rules.specs.Meaning.{Clause, Values, clauses, LitUpTo, Proper}
+use Rattle.rules.specs.Closing.{stateOf, closing, Closed, clash, closed}
+use Rattle.rules.specs.Visits.{Visits, Quiet}
+use Rattle.rules.specs.Search.{Call, model, no-model, stopped, triesOf, callOn}
+use Rattle.rules.specs.Units.{units}
+use Rattle.rules.specs.Models.{Covers, LeastModel, NoModelFrom, NoModel, Forced, Free, WitnessOf}
+use Rattle.rules.specs.Run.{Task, Progress, statusAt, isForcedTo, forcedValues, chunkOf, constraint, chunkCall, blank, run}
+use Rattle.rules.specs.Answer.{Given, logLength, refusalOf, taskOf, reportOf, statusAfter, logOfRows, logAfter, isFree, isForced, Runs}
+use Rattle.rules.specs.RunRefusals.{Accepted, RunRefuses}
+use Rattle.rules.specs.Log.{LogOf}
+use Rattle.rules.specs.Printed.{Prints}
+use Rattle.rules.proofs.ClosingOrder as closing-order
+use Rattle.rules.proofs.SearchLaws as search-laws
+use Rattle.rules.proofs.RunNext as run-next
+use Rattle.rules.proofs.RunTheorems as run-theorems
+use Rattle.rules.proofs.CallTheorems as call-theorems
+use Rattle.rules.proofs.RefusedRuns as refused-runs
+use Rattle.rules.proofs.BufferTheorems as buffers
+use Rattle.rules.proofs.ReadingTheorems as reading
+use Rattle.rules.proofs.TextTheorems as texts
+use Rattle.rules.proofs.PrintedLaws as printed
+
+-- ---- the reader
+
+-- A text is accepted, with V, C, its entries and the buffer filled, exactly if the grammar derives it.
+pub reader-agrees : (text : List ℕ) (before : List ℤ) → maxEntries ≤ length before → (s : Sizes) (es : List ℤ) → Dimacs text (s .vars) (s .clauses) es ↔ ((readingOf text before ≡ record { answer = ReadAnswer.Accepted; vars = s .vars; clauses = s .clauses; entries = length es }) × (entriesAfter text before ≡ filled es before))
+reader-agrees = reading.read-accepts
+
+-- Each refusal number is given exactly when its rule says so.
+pub reader-refuses : (text : List ℕ) (before : List ℤ) (a : ReadAnswer) → a ≢ ReadAnswer.Accepted → (readingOf text before .answer ≡ a) ↔ Refuses (length before) text a
+reader-refuses = reading.read-refuses
+
+-- Every formula within the sizes, printed plainly, is read back as itself.
+pub reader-round-trip : (vars : ℕ) (F : List Clause) (before : List ℤ) → Within vars F → maxEntries ≤ length before → (readingOf (plain vars F) before ≡ record { answer = ReadAnswer.Accepted; vars = vars; clauses = length F; entries = length (entriesOf F) }) × (entriesAfter (plain vars F) before ≡ filled (entriesOf F) before) × (clauses (entriesOf F) ≡ F)
+reader-round-trip = texts.round-trip
+
+-- ---- closing
+
+-- Closing the same clauses, each read as a set of literals, in another order ends the same way.
+pub closing-any-order : {F G : List Clause} → Covers F G → Covers G F → (vs : Values) → Proper vs → closing F vs ≡ closing G vs
+closing-any-order = closing-order.closing-order
+
+-- Visits in any order that leave nothing to do have found the closed set.
+pub visits-any-order : {F : List Clause} {vs ws : Values} → Proper vs → Visits F vs ws → Quiet ws F → closing F vs ≡ closed ws
+visits-any-order = closing-order.visits-closed
+
+-- Visits in any order that come to a false clause mean a clash.
+pub visits-any-clash : {F : List Clause} {vs ws : Values} {cl : Clause} → Proper vs → Visits F vs ws → In cl F → stateOf ws cl ≡ False → closing F vs ≡ clash
+visits-any-clash = closing-order.visits-clash
+
+-- ---- the search
+
+-- A model found is total, satisfies every clause, extends the start, and is the first from variable 1 up, false before true.
+pub search-model : (budget : ℕ) (F : List Clause) (vs : Values) (t : ℕ) (m : Values) (u : ℕ) → Proper vs → callOn budget F vs t ≡ model m u → LeastModel F vs m
+search-model = search-laws.callOn-model
+
+-- "None" means that no model extends the start.
+pub search-none : (budget : ℕ) (F : List Clause) (vs : Values) (t u : ℕ) → Proper vs → callOn budget F vs t ≡ no-model u → NoModelFrom F vs
+search-none = search-laws.callOn-none
+
+-- Tries never exceed the budget.
+pub search-tries : (budget : ℕ) (F : List Clause) (vs : Values) (t : ℕ) → t ≤ budget → triesOf (callOn budget F vs t) ≤ budget
+search-tries budget F vs t h = search-laws.callOn-tries budget F vs t .within h
+
+-- A call that starts from the forced values is the page's call, on the formula, the forced literals as one-literal clauses, and the
+-- constraint.
+pub call-as-page : (k : Task) (p : Progress) (n : ℕ) → chunkCall k p n ≡ callOn (k .budget) (k .formula ++ units 0 (forcedValues (p .statuses)) ++ constraint (chunkOf p n) ∷ []) (blank (length (p .statuses))) (p .tries)
+call-as-page = run-next.chunkCall-units
+
+-- ---- the run's refusals and buffers
+
+-- Each refusal number and place is given exactly when its rule says so.
+pub run-refusals : (g : Given) (a : RunAnswer) → (refusalOf g ≡ some a) ↔ RunRefuses g a
+run-refusals = refused-runs.run-refused
+
+-- A run is accepted exactly if no rule refuses it.
+pub run-acceptance : (g : Given) → (refusalOf g ≡ none) ↔ Accepted g
+run-acceptance = refused-runs.run-accepted
+
+-- A refused run returns zero counts and writes nothing.
+pub run-refused-nothing : (g : Given) (a : RunAnswer) → RunRefuses g a → (reportOf g ≡ record { answer = a; calls = 0; tries = 0; forced = 0; free = 0 }) × (statusAfter g ≡ g .status) × (logAfter g ≡ g .log)
+run-refused-nothing = buffers.refused-writes-nothing
+
+-- An accepted run writes the statuses into the first V bytes, and leaves the rest.
+pub run-status : (g : Given) → Accepted g → (take (g .vars) (statusAfter g) ≡ run (taskOf g) .progress .statuses) × (drop (g .vars) (statusAfter g) ≡ drop (g .vars) (g .status))
+run-status = buffers.status-written
+
+-- It writes its rows and zeros for rows not used into the first 6(V + 1) numbers, and leaves the rest.
+pub run-log-buffer : (g : Given) → Accepted g → (take (logLength (g .vars)) (logAfter g) ≡ logOfRows (g .vars) (run (taskOf g) .progress .rows)) × (drop (logLength (g .vars)) (logAfter g) ≡ drop (logLength (g .vars)) (g .log))
+run-log-buffer = buffers.log-written
+
+-- ---- the run, for every accepted task
+
+module _ (k : Task) (limit : 1 ≤ k .limit) where
+  -- A settled run marks a literal forced exactly if a model exists and all models contain it.
+  pub settled-forced : run k .answer ≡ RunAnswer.Settled → (l : ℤ) → LitUpTo (k .vars) l → isForcedTo (run k .progress .statuses) l ↔ Forced (k .vars) (k .formula) l
+  settled-forced = run-theorems.settled-forced k limit
+
+  -- A settled run marks a variable free exactly if two models differ on it.
+  pub settled-free : run k .answer ≡ RunAnswer.Settled → (i : ℕ) → i < k .vars → (statusAt (run k .progress .statuses) i ≡ 1) ↔ Free (k .vars) (k .formula) i
+  settled-free = run-theorems.settled-free k limit
+
+  -- A run that is not stopped answers "no model" exactly if there is none.
+  pub no-model-exactly : run k .answer ≢ RunAnswer.Stopped → (run k .answer ≡ RunAnswer.NoModel) ↔ NoModel (k .vars) (k .formula)
+  no-model-exactly = run-theorems.no-model-exactly k limit
+
+  -- However a run ends, every literal marked forced is in all models, and there is one.
+  pub forced-sound : (l : ℤ) → LitUpTo (k .vars) l → isForcedTo (run k .progress .statuses) l → Forced (k .vars) (k .formula) l
+  forced-sound = run-theorems.run-forced k limit
+
+  -- However a run ends, every variable marked free has a model of that run, or one with this variable alone flipped that is still a
+  -- model, that differs on it from the run's first model.
+  pub free-witness : (i : ℕ) → i < k .vars → statusAt (run k .progress .statuses) i ≡ 1 → WitnessOf (k .vars) (k .formula) (run k .progress .models) i
+  free-witness = run-theorems.run-free k limit
+
+  -- Calls begun are at most V + 1.
+  pub calls-bound : length (run k .progress .rows) ≤ k .vars + 1
+  calls-bound = call-theorems.run-calls k limit
+
+  -- Tries never exceed the budget, and a run is stopped only when they are spent.
+  pub tries-bound : (run k .progress .tries ≤ k .budget) × (run k .answer ≡ RunAnswer.Stopped → run k .progress .tries ≡ k .budget)
+  tries-bound = (call-theorems.run-tries k limit, call-theorems.stopped-spent k limit)
+
+  -- Rows are numbered from 1; after the first, a call with a model drops at least one candidate and one without forces at least one;
+  -- both drop columns add up to the number free, the chunks of later rows that say 2 to the number forced, and the tries to all tries.
+  pub log-adds-up : LogOf (run k .progress .rows) (count isFree (run k .progress .statuses)) (count isForced (run k .progress .statuses)) (run k .progress .tries)
+  log-adds-up = call-theorems.run-log k limit
+
+  -- After "no model" all variables are open, and the log has one row.
+  pub no-model-table : run k .answer ≡ RunAnswer.NoModel → (run k .progress .statuses ≡ replicate (k .vars) 0) × (length (run k .progress .rows) ≡ 1)
+  no-model-table = call-theorems.no-model-table k limit
+
+-- ---- no second result
+
+-- One result and one buffer satisfy the reader's contract.
+pub reads-unique : {text : List ℕ} {before : List ℤ} {r r′ : Reading} {b b′ : List ℤ} → Reads text before r b → Reads text before r′ b′ → (r ≡ r′) × (b ≡ b′)
+reads-unique = reading.reads-unique
+
+-- One result and two buffers satisfy the run's contract.
+pub runs-unique : {g : Given} {r r′ : Report} {s s′ l l′ : List ℕ} → Runs g r s l → Runs g r′ s′ l′ → (r ≡ r′) × (s ≡ s′) × (l ≡ l′)
+runs-unique = buffers.runs-unique
+
+-- One number and one buffer satisfy the printed table's contract.
+pub prints-unique : {text before : List ℕ} {n n′ : ℕ} {b b′ : List ℕ} → Prints text before n b → Prints text before n′ b′ → (n ≡ n′) × (b ≡ b′)
+prints-unique = printed.prints-unique
