@@ -8,6 +8,7 @@
 --   closing-next                  closing is a round and, if it set anything, closing again
 --   Keeps, closing-sound          a model that extends the start extends what closing ends in, and there is no clash
 --   Settled, Ends, closing-ends   closing ends in values that extend the start, where nothing is left to set
+--   closing-quiet                 the same, where the closed set is known
 --
 -- Assumes nothing.
 use mathlib.Core.Path.{_≡_, refl, sym, _∙_}
@@ -224,3 +225,6 @@ closing-ends F = closing-rec F (Ends F) (λ vs e. tt) (λ vs e q. still vs q) (�
           fewer = omega arith;
           quiet = s .quiet;
         }
+
+pub closing-quiet : (F : List Clause) (vs ws : Values) → closing F vs ≡ closed ws → Quiet ws F
+closing-quiet F vs ws e = let s : Settled F vs ws = rw e at (closing-ends F vs) in s .quiet

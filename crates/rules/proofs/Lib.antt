@@ -30,5 +30,7 @@ pub mod RefusedRuns
 pub mod BufferTheorems
 pub mod TextTheorems
 pub mod PrintedLaws
+pub mod PlaceLaws
+pub mod TableLaws
 pub mod Starred
 pub mod Theorems

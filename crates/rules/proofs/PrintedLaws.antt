@@ -1,7 +1,5 @@
--- The laws of specs/Printed: a table is never longer than maxTable, its contract has exactly one solution, and document 01's example
--- computed.
+-- The laws of specs/Printed: its contract has exactly one solution, its run is never refused, and document 01's example computed.
 --
---   length-tableOf    no table is longer than maxTable
 --   prints-exists, prints-unique     one result and one buffer satisfy the contract
 --   table-runs        the run of the table program is never refused
 --   shown             document 01's example

@@ -21,7 +21,7 @@ use Rattle.rules.specs.Grammar.{Dimacs}
 use Rattle.rules.specs.Refusals.{Refuses}
 use Rattle.rules.specs.Plain.{plain, entriesOf, Within}
 use Rattle.rules.specs.Meaning.{Clause, Values, clauses, LitUpTo, Proper}
-use Rattle.rules.specs.Closing.{stateOf, closing, Closed, clash, closed}
+use Rattle.rules.specs.Closing.{stateOf, under-way, round, again, closing, Closed, clash, closed}
 use Rattle.rules.specs.Visits.{Visits, Quiet}
 use Rattle.rules.specs.Search.{Call, model, no-model, stopped, triesOf, callOn}
 use Rattle.rules.specs.Units.{units}
@@ -30,7 +30,8 @@ use Rattle.rules.specs.Run.{Task, Progress, statusAt, isForcedTo, forced
 use Rattle.rules.specs.Answer.{Given, logLength, refusalOf, taskOf, reportOf, statusAfter, logOfRows, logAfter, isFree, isForced, Runs}
 use Rattle.rules.specs.RunRefusals.{Accepted, RunRefuses}
 use Rattle.rules.specs.Log.{LogOf}
-use Rattle.rules.specs.Printed.{Prints}
+use Rattle.rules.specs.Printed.{tableOf, maxTable, Prints}
+use Rattle.rules.proofs.ClosingLaws as closing-laws
 use Rattle.rules.proofs.ClosingOrder as closing-order
 use Rattle.rules.proofs.SearchLaws as search-laws
 use Rattle.rules.proofs.RunNext as run-next
@@ -41,6 +42,7 @@ use Rattle.rules.proofs.BufferTheorems as buffers
 use Rattle.rules.proofs.ReadingTheorems as reading
 use Rattle.rules.proofs.TextTheorems as texts
 use Rattle.rules.proofs.PrintedLaws as printed
+use Rattle.rules.proofs.TableLaws as table-laws
 
 -- ---- the reader
 
@@ -69,6 +71,14 @@ visits-any-order = closing-order.visits-closed
 -- Visits in any order that come to a false clause mean a clash.
 pub visits-any-clash : {F : List Clause} {vs ws : Values} {cl : Clause} → Proper vs → Visits F vs ws → In cl F → stateOf ws cl ≡ False → closing F vs ≡ clash
 visits-any-clash = closing-order.visits-clash
+
+-- Closing goes by rounds until one sets nothing or stops at a false clause.
+pub closing-by-rounds : (F : List Clause) (vs : Values) → closing F vs ≡ again (round F (under-way vs 0)) (λ ws. closing F ws)
+closing-by-rounds = closing-laws.closing-next
+
+-- A closed set leaves nothing to do.
+pub closed-is-quiet : (F : List Clause) (vs ws : Values) → closing F vs ≡ closed ws → Quiet ws F
+closed-is-quiet = closing-laws.closing-quiet
 
 -- ---- the search
 
@@ -151,6 +161,12 @@ module _ (k : Task) (limit : 1 ≤ k .limit) where
   -- After "no model" all variables are open, and the log has one row.
   pub no-model-table : run k .answer ≡ RunAnswer.NoModel → (run k .progress .statuses ≡ replicate (k .vars) 0) × (length (run k .progress .rows) ≡ 1)
   no-model-table = call-theorems.no-model-table k limit
+
+-- ---- the printed table
+
+-- No table is longer than 4,096 bytes, whatever the text.
+pub table-bound : (text : List ℕ) → length (tableOf text) ≤ maxTable
+table-bound = table-laws.length-tableOf
 
 -- ---- no second result
 

@@ -1,5 +1,6 @@
-// The types that the definitions in specs/ name, and the sizes of document 01, "Sizes". No function is here: the crates above
-// compute what specs/ defines, and theorems about it stand in proofs/.
+// The types that the definitions in specs/ name, and the sizes of document 01, "Sizes". Of functions only the numbers of the answers
+// are here: the crates above compute what specs/ defines, and theorems about it stand in proofs/.
+pub mod numbers;
 
 // A variable's number, from 1.
 pub struct Var(pub u32);

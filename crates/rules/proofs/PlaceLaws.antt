@@ -1,0 +1,77 @@
+-- The place of a refusal lies within the text or at its end.
+--
+--   token-place       a token starts within the text
+--   line-place        so does the first line that is not skipped
+--   refuses-place     the place of every refusal is at most the size of a text
+--
+-- Assumes nothing.
+use mathlib.Core.Path.{_≡_, refl, sym, _∙_, ap}
+use mathlib.Core.Bool.{Bool, true, false, not}
+use mathlib.Core.List.{List, [], _∷_, _++_, List·Memᴰ·head, List·Memᴰ·tail, List·Memᴰ·not-nil, Memᴰ·append-right}
+use Prim.Native.Nat.{ℕ, zero, suc, _+_, _-_, _≤_, _<_}
+use native.Mathlib.Omega.{arith}
+use native.Mathlib.Decide.{decLe}
+use lib.IntN.{ℤ}
+use lib.ListN.{length, drop, length-append, length-drop, drop-of-length-le}
+use Rattle.rules.specs.declared.ReadAnswer.{ReadAnswer}
+use Rattle.rules.specs.Lists.{In, cut, sumOf}
+use Rattle.rules.specs.Numbers.{maxText, readPlace}
+use Rattle.rules.specs.Text.{Piece, Sizes, isEmpty, isBlank, placedFrom, tokensFrom}
+use Rattle.rules.specs.Reading.{behind}
+use Rattle.rules.specs.Refusals.{FirstLine, Headed, AtToken, Refuses, buffer-short, text-long, no-header, bad-header, header-large, bad-token, token-after-last, variable-above, entry-over, ends-early}
+use Rattle.rules.proofs.ListLaws.{keep-sound}
+use Rattle.rules.proofs.CutLaws.{Cut, last, piece, cut-exists, nil-not-append}
+use Rattle.rules.proofs.LineLaws.{first-line-sound}
+
+-- ---- pieces
+
+-- the pieces and the bytes between them
+cut-length : {p : ℕ → Bool} {xs : List ℕ} {xss : List (List ℕ)} → Cut p xs xss → sumOf (λ bs. length bs + 1) xss ≡ length xs + 1
+cut-length (last {xs = xs} h) = omega arith
+cut-length (piece {xs = xs} {y = y} {ys = ys} h k c) = omega (arith, cut-length c, length-append xs (y ∷ ys))
+
+placed-place : (at : ℕ) (xss : List (List ℕ)) {t : Piece} → In t (placedFrom at xss) → t .at + length (t .bytes) + 1 ≤ at + sumOf (λ bs. length bs + 1) xss
+placed-place at [] i = absurd (List·Memᴰ·not-nil i)
+placed-place at (bs ∷ bss) (List·Memᴰ·head e) = rw e (omega arith)
+placed-place at (bs ∷ bss) (List·Memᴰ·tail i) = omega (arith, placed-place (at + length bs + 1) bss i)
+
+pub token-place : (at : ℕ) (xs : List ℕ) {t : Piece} → In t (tokensFrom at xs) → t .at ≤ at + length xs
+unfolding tokensFrom
+token-place at xs i =
+    let (j, e) = keep-sound (λ (t : Piece). not (isEmpty (t .bytes))) (placedFrom at (cut isBlank xs)) i in
+    omega (arith, placed-place at (cut isBlank xs) j, cut-length (cut-exists isBlank xs))
+
+pub line-place : {text : List ℕ} {line : Piece} → FirstLine text line → line .at + length (line .bytes) ≤ length text
+line-place {text} {line} f =
+    let s = first-line-sound f in
+    omega (arith, s .place, ap length (s .is-text), length-append (s .front ++ line .bytes) (s .rest), length-append (s .front) (line .bytes))
+
+-- ---- the place of a refusal
+
+-- there is a token only where the text goes on behind the header line
+behind-text : (n : ℕ) (text : List ℕ) {t : Piece} → In t (tokensFrom n (drop n text)) → n ≤ length text
+unfolding tokensFrom
+behind-text n text i = go (decLe n (length text)) i
+  where
+    go : {t : Piece} → Dec (n ≤ length text) → In t (tokensFrom n (drop n text)) → n ≤ length text
+    go (yes h) i = h
+    go (no h) i =
+        let e : drop n text ≡ [] = drop-of-length-le text {i = n} (omega arith) in absurd (List·Memᴰ·not-nil (rw e at i))
+
+at-token-place : {room : ℕ} {text : List ℕ} {s : Sizes} {es : List ℤ} {t : Piece} → AtToken room text s es t → t .at ≤ maxText
+at-token-place {text = text} {t = t} w =
+    let n = behind (w .line) in
+    let i : In t (tokensFrom n (drop n text)) = rw (w .tokens) (Memᴰ·append-right (w .before) (List·Memᴰ·head refl)) in
+    omega (arith, token-place n (drop n text) i, length-drop n text, behind-text n text i, w .begun .text-fits)
+
+pub refuses-place : {room : ℕ} {text : List ℕ} {a : ReadAnswer} → Refuses room text a → readPlace a ≤ maxText
+refuses-place (buffer-short h) = omega arith
+refuses-place (text-long h k) = omega arith
+refuses-place (no-header b h) = b .text-fits
+refuses-place (bad-header line b f h) = omega (arith, line-place f, b .text-fits)
+refuses-place (header-large line v c b f h k) = omega (arith, line-place f, b .text-fits)
+refuses-place (bad-token s es t w h) = at-token-place w
+refuses-place (token-after-last s es t l w h k) = at-token-place w
+refuses-place (variable-above s es t l w h k u) = at-token-place w
+refuses-place (entry-over s es t l w h k u m) = at-token-place w
+refuses-place (ends-early line s es b h f k) = b .text-fits

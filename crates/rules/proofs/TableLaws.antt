@@ -1,0 +1,129 @@
+-- No printed table is longer than maxTable, whatever the text: 63 bytes for the first line, 15 for each variable.
+--
+--   length-tableOf    no table is longer than maxTable
+--
+-- Assumes nothing.
+use mathlib.Core.Path.{_≡_, refl, sym, _∙_, ap}
+use mathlib.Core.Logic.{_⊎_, inl, inr}
+use mathlib.Core.List.{List, [], _∷_, _++_}
+use Prim.Native.Nat.{ℕ, zero, suc, _+_, _-_, _*_, _≤_, _<_}
+use native.Mathlib.Omega.{arith}
+use lib.IntN.{ℤ}
+use lib.ListN.{length, drop, replicate, length-append, length-replicate}
+use Rattle.rules.specs.declared.ReadAnswer.{ReadAnswer}
+use Rattle.rules.specs.declared.RunAnswer.{RunAnswer}
+use Rattle.rules.specs.declared.Report.{Report}
+use Rattle.rules.specs.Lists.{count}
+use Rattle.rules.specs.Numbers.{maxText, maxVars, maxEntries, readNumber, readPlace, runNumber, runPlace}
+use Rattle.rules.specs.Text.{Sizes}
+use Rattle.rules.specs.Reading.{Judged, accepted, refused, judge}
+use Rattle.rules.specs.Plain.{decimal}
+use Rattle.rules.specs.Run.{run}
+use Rattle.rules.specs.Answer.{Given, taskOf, isFree, isForced, refusalOf, reportOf, statusAfter, logLength}
+use Rattle.rules.specs.RunRefusals.{Accepted}
+use Rattle.rules.specs.Printed.{answerWord, callsWord, triesWord, forcedWord, freeWord, openWord, refusedWord, placeWord, refusedLine, answerLine, statusWords, statusLines, tableBy, tableGiven, tableOfJudged, tableOf, maxTable}
+use Rattle.rules.proofs.ListLaws.{count-le}
+use Rattle.rules.proofs.DecimalLaws.{decimal-most}
+use Rattle.rules.proofs.RefusalLaws.{refusal-sound}
+use Rattle.rules.proofs.PlaceLaws.{refuses-place}
+use Rattle.rules.proofs.RunTheorems.{run-answer, run-statuses}
+use Rattle.rules.proofs.CallTheorems.{run-calls, run-tries}
+use Rattle.rules.proofs.RefusedRuns.{run-accepted}
+use Rattle.rules.proofs.BufferTheorems.{length-statusAfter}
+use Rattle.rules.proofs.PrintedLaws.{table-runs}
+
+-- ---- lines
+
+readNumber-le : (a : ReadAnswer) → readNumber a ≤ 9
+readNumber-le ReadAnswer.Accepted = omega arith
+readNumber-le ReadAnswer.BufferShort = omega arith
+readNumber-le ReadAnswer.TextLong = omega arith
+readNumber-le (ReadAnswer.BadHeader at) = omega arith
+readNumber-le (ReadAnswer.HeaderLarge at) = omega arith
+readNumber-le (ReadAnswer.BadToken at) = omega arith
+readNumber-le (ReadAnswer.TokenAfterLast at) = omega arith
+readNumber-le (ReadAnswer.VariableAbove at) = omega arith
+readNumber-le (ReadAnswer.EntryOver at) = omega arith
+readNumber-le (ReadAnswer.EndsEarly at) = omega arith
+
+runNumber-le : (a : RunAnswer) → runNumber a ≤ 21
+runNumber-le RunAnswer.Settled = omega arith
+runNumber-le RunAnswer.BufferShort = omega arith
+runNumber-le RunAnswer.OutOfLimits = omega arith
+runNumber-le (RunAnswer.BadList at) = omega arith
+runNumber-le (RunAnswer.VariableAbove at) = omega arith
+runNumber-le RunAnswer.NoModel = omega arith
+runNumber-le RunAnswer.Stopped = omega arith
+
+length-refusedLine : (number place : ℕ) → number ≤ 99 → place ≤ maxText → length (refusedLine number place) ≤ 23
+length-refusedLine number place h k =
+    simp length-append (omega (arith, decimal-most 2 number (omega arith) (omega arith), decimal-most 5 place (omega arith) (omega arith)))
+
+length-answerLine : (vars : ℕ) (r : Report) → vars ≤ maxVars → r .calls ≤ 257 → r .tries ≤ 1000000 → r .forced ≤ vars → r .free ≤ vars → length (answerLine vars r) ≤ 63
+length-answerLine vars r v c t f e =
+    simp length-append
+    (omega (arith, runNumber-le (r .answer), decimal-most 2 (runNumber (r .answer)) (omega arith) (omega (arith, runNumber-le (r .answer))), decimal-most 3 (r .calls) (omega arith) (omega arith), decimal-most 7 (r .tries) (omega arith) (omega arith), decimal-most 3 (r .forced) (omega arith) (omega arith), decimal-most 3 (r .free) (omega arith) (omega arith), decimal-most 3 (vars - r .forced - r .free) (omega arith) (omega arith)))
+
+length-statusWords : (s : ℕ) → length (statusWords s) ≤ 11
+length-statusWords zero = omega arith
+length-statusWords (suc zero) = omega arith
+length-statusWords (suc (suc zero)) = omega arith
+length-statusWords (suc (suc (suc s))) = omega arith
+
+length-statusLines : (v : ℕ) (ss : List ℕ) → v + length ss ≤ 257 → length (statusLines v ss) ≤ 15 * length ss
+length-statusLines v [] h = omega arith
+length-statusLines v (s ∷ ss) h =
+    simp length-append (omega (arith, decimal-most 3 v (omega arith) (omega arith), length-statusWords s, length-statusLines (suc v) ss (omega arith)))
+
+-- ---- tables
+
+-- what an accepted run of at most 256 variables and 1,000,000 tries returns
+record Bounded (vars : ℕ) (r : Report) (ss : List ℕ) : Type 0 where
+  vars-fit : vars ≤ maxVars
+  calls-fit : r .calls ≤ 257
+  tries-fit : r .tries ≤ 1000000
+  forced-fit : r .forced ≤ vars
+  free-fit : r .free ≤ vars
+  lines : length ss ≡ vars
+  answer-is : (r .answer ≡ RunAnswer.Settled) ⊎ ((r .answer ≡ RunAnswer.NoModel) ⊎ (r .answer ≡ RunAnswer.Stopped))
+
+length-tableBy : {vars : ℕ} {r : Report} {ss : List ℕ} → Bounded vars r ss → length (tableBy (r .answer) vars r ss) ≤ maxTable
+length-tableBy {vars} {r} {ss} b = go (b .answer-is)
+  where
+    first : length (answerLine vars r) ≤ 63
+    first = length-answerLine vars r (b .vars-fit) (b .calls-fit) (b .tries-fit) (b .forced-fit) (b .free-fit)
+
+    all-lines : length (answerLine vars r ++ statusLines 1 ss) ≤ maxTable
+    all-lines = omega (arith, first, length-append (answerLine vars r) (statusLines 1 ss), length-statusLines 1 ss (omega (arith, b .lines, b .vars-fit)), b .lines, b .vars-fit)
+
+    go : (r .answer ≡ RunAnswer.Settled) ⊎ ((r .answer ≡ RunAnswer.NoModel) ⊎ (r .answer ≡ RunAnswer.Stopped)) → length (tableBy (r .answer) vars r ss) ≤ maxTable
+    go (inl e) = rw (ap (λ (a : RunAnswer). length (tableBy a vars r ss)) e) all-lines
+    go (inr (inl e)) = rw (ap (λ (a : RunAnswer). length (tableBy a vars r ss)) e) (omega (arith, first))
+    go (inr (inr e)) = rw (ap (λ (a : RunAnswer). length (tableBy a vars r ss)) e) all-lines
+
+run-bounded : (g : Given) → Accepted g → g .budget ≤ 1000000 → length (g .status) ≡ g .vars → Bounded (g .vars) (reportOf g) (statusAfter g)
+unfolding reportOf
+run-bounded g w b l =
+    let limit = w .listed .lent .in-limits .limit-some in
+    let vars-fit = w .listed .lent .in-limits .vars-fit in
+    let (n, s) = run-statuses (taskOf g) limit in
+    rw (run-accepted g .1 w)
+    (record {
+      vars-fit = vars-fit;
+      calls-fit = omega (arith, run-calls (taskOf g) limit, vars-fit);
+      tries-fit = omega (arith, run-tries (taskOf g) limit);
+      forced-fit = omega (arith, count-le isForced (run (taskOf g) .progress .statuses), n);
+      free-fit = omega (arith, count-le isFree (run (taskOf g) .progress .statuses), n);
+      lines = length-statusAfter g w ∙ l;
+      answer-is = run-answer (taskOf g) limit;
+    })
+
+pub length-tableOf : (text : List ℕ) → length (tableOf text) ≤ maxTable
+unfolding tableOf
+length-tableOf text = go (judge maxEntries text) refl
+  where
+    go : (j : Judged) → judge maxEntries text ≡ j → length (tableOfJudged j) ≤ maxTable
+    go (refused a) e =
+        omega (arith, length-refusedLine (readNumber a) (readPlace a) (omega (arith, readNumber-le a)) (refuses-place (refusal-sound maxEntries text e)))
+    go (accepted s es) e =
+        length-tableBy (run-bounded (tableGiven s es) (table-runs maxEntries text e) (omega arith) (length-replicate {A = ℕ} (s .vars) 0))
