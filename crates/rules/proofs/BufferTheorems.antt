@@ -2,6 +2,7 @@
 --
 --   runs-exists, runs-unique     one result and two buffers satisfy the contract, and no others
 --   refused-writes-nothing       a refused run returns zero counts and leaves both buffers
+--   length-rows                  six numbers a row
 --   status-written               the first V bytes are the statuses, and the rest stays
 --   log-written                  rows for the calls begun, zeros for rows not used, and the rest stays
 --   length-statusAfter, length-logAfter     the buffers keep their lengths
@@ -41,7 +42,7 @@ refused-writes-nothing g a h = let e = run-refused g a .1 h in (rw e, rw e, rw e
 
 -- ---- accepted
 
-length-rows : (rows : List Row) → length (joined (map rowNumbers rows)) ≡ 6 * length rows
+pub length-rows : (rows : List Row) → length (joined (map rowNumbers rows)) ≡ 6 * length rows
 length-rows [] = refl
 length-rows (r ∷ rows) =
     length-append (rowNumbers r) (joined (map rowNumbers rows)) ∙ omega (arith, length-rows rows)

@@ -21,7 +21,8 @@ use Rattle.rules.specs.Run.{Task, Row, Progress, statusAt, opens, rowAft
 use Rattle.rules.specs.Answer.{isFree, isForced}
 use Rattle.rules.specs.Log.{LogOf}
 use Rattle.rules.proofs.SearchLaws.{Metered}
-use Rattle.rules.proofs.RunTrace.{Reached, Ends, first-none, first-stopped, settled, next-stopped, run-ends}
+use Rattle.rules.specs.Trace.{Reached, Ends, first-none, first-stopped, settled, next-stopped}
+use Rattle.rules.proofs.RunTrace.{run-ends}
 use Rattle.rules.proofs.LogLaws.{LogAt, blank-counts, first-metered, chunk-metered, log-begun, log-counts, stop-log, logged, calls-opens-le, tries-le}
 
 -- the one row of a first call that finds no model

@@ -29,7 +29,7 @@ use Rattle.rules.specs.Meaning.{Clause, Values, valueAt, indexOf, trueBy
 use Rattle.rules.specs.Search.{Call, model, no-model, stopped, callOn}
 use Rattle.rules.specs.Models.{Extends, Witness, by-model, by-flip, LeastModel, NoModelFrom}
 use Rattle.rules.specs.Run.{Task, Row, Progress, statusAt, opens, literalAt, candidatesFrom, freedFrom, differs, otherByte, flipped, canFlip, compared, flips, forcedBy, forceFirst, blank, forcedValue, forcedValues, chunkOf, constraint, chunkCall, afterModel, afterNone, afterStop, Ended, endedBy, begun, firstCall}
-use Rattle.rules.proofs.ListLaws.{both, never, any-sound, any-complete, and-left}
+use Rattle.rules.proofs.ListLaws.{both, never, any-sound, any-complete, and-left, in-map}
 use Rattle.rules.proofs.MeaningLaws.{set-cases, blank-proper, blank-extends, satisfies-append, satisfies-left, satisfies-right}
 use Rattle.rules.proofs.SearchLaws.{Says, callOn-says}
 use Rattle.rules.proofs.StatusLaws.{length-freedFrom, freed-at, candidate-open, literalAt-true, literalAt-negated, length-forceFirst, forceFirst-at, length-forcedValues, forcedValues-at, forcedValue-forcedBy, forcedValue-le}
@@ -144,10 +144,6 @@ known-filtered {k} {first} {models} {ss} m x h w =
     known-freed (canFlip (k .formula) m) (known-freed (differs first m) w (λ i l d. compare-witness first x h i d)) (λ i l c. flip-witness first x h i l c)
 
 -- ---- no model: the whole chunk is forced
-
-in-map : {A B : Type 0} (f : A → B) {x : A} {xs : List A} → In x xs → In (f x) (map f xs)
-in-map f (List·Memᴰ·head e) = List·Memᴰ·head (ap f e)
-in-map f (List·Memᴰ·tail h) = List·Memᴰ·tail (in-map f h)
 
 -- the values with which a chunk's call starts
 pub proper-forcedValues : (ss : List ℕ) → Proper (forcedValues ss)

@@ -11,6 +11,7 @@
 --   any-cong, all-cong, keep-cong, count-cong, sumOf-cong     functions that agree on the elements
 --   length-keep, count-le, count-pos, count-split, count-zero, count-of-none     how many pass
 --   in-getD, getD-in, getD-default     elements and indices; inside a list the default does not matter
+--   in-map, map-in, in-take       elements of map and take
 --   eqz-sound, eqz-refl, eqz-complete, eqz-other     two whole numbers are the same
 --   eqs-sound, eqs-refl           two lists of numbers are the same
 --
@@ -18,12 +19,12 @@
 use mathlib.Core.Path.{_≡_, refl, sym, _∙_, ap}
 use mathlib.Core.Logic.{_≢_, _⊎_, inl, inr}
 use mathlib.Core.Bool.{Bool, true, false, true≢false, not, _&&_, _||_, or-true}
-use mathlib.Core.List.{List, [], _∷_, _++_, List·Memᴰ·head, List·Memᴰ·tail, List·Memᴰ·not-nil}
+use mathlib.Core.List.{List, [], _∷_, _++_, List·Memᴰ·head, List·Memᴰ·tail, List·Memᴰ·not-nil, map}
 use Prim.Native.Nat.{ℕ, zero, suc, _+_, _≤_, _<_}
 use native.Mathlib.Omega.{arith}
 use lib.Dec.{eqb}
 use lib.IntN.{ℤ, pos, negsuc}
-use lib.ListN.{length, getD}
+use lib.ListN.{length, getD, take}
 use borrow.Author.Tests.{eqb-true, eq-eqb}
 use Rattle.rules.specs.Lists.{In, any, all, keep, keepIf, count, countIf, sumOf, eqz, eqs}
 
@@ -235,6 +236,23 @@ module _ {A : Type 0} where
   getD-default [] i d e h = absurd (omega arith)
   getD-default (x ∷ xs) zero d e h = refl
   getD-default (x ∷ xs) (suc i) d e h = getD-default xs i d e (omega arith)
+
+-- ---- elements of map and take
+
+pub in-map : {A B : Type 0} (f : A → B) {x : A} {xs : List A} → In x xs → In (f x) (map f xs)
+in-map f (List·Memᴰ·head e) = List·Memᴰ·head (ap f e)
+in-map f (List·Memᴰ·tail h) = List·Memᴰ·tail (in-map f h)
+
+pub map-in : {A B : Type 0} (f : A → B) {y : B} (xs : List A) → In y (map f xs) → (x : A) × In x xs × (y ≡ f x)
+map-in f [] h = absurd (List·Memᴰ·not-nil h)
+map-in f (x ∷ xs) (List·Memᴰ·head e) = (x, List·Memᴰ·head refl, e)
+map-in f (x ∷ xs) (List·Memᴰ·tail h) = let (z, i, e) = map-in f xs h in (z, List·Memᴰ·tail i, e)
+
+pub in-take : {A : Type 0} {x : A} (n : ℕ) (xs : List A) → In x (take n xs) → In x xs
+in-take zero xs h = absurd (List·Memᴰ·not-nil h)
+in-take (suc n) [] h = h
+in-take (suc n) (y ∷ ys) (List·Memᴰ·head e) = List·Memᴰ·head e
+in-take (suc n) (y ∷ ys) (List·Memᴰ·tail h) = List·Memᴰ·tail (in-take n ys h)
 
 -- ---- the same number, the same list
 

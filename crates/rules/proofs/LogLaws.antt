@@ -28,7 +28,8 @@ use Rattle.rules.specs.Log.{drops, forcedIn, Settles, NumberedFrom, no-r
 use Rattle.rules.proofs.ListLaws.{sumOf-append, count-le}
 use Rattle.rules.proofs.SearchLaws.{Metered, callOn-tries}
 use Rattle.rules.proofs.StatusLaws.{Freed, freed-counts, ForcedMore}
-use Rattle.rules.proofs.RunTrace.{Reached, first-model, next-model, next-none, size-pos, model-drops, none-forces}
+use Rattle.rules.specs.Trace.{Reached, first-model, next-model, next-none}
+use Rattle.rules.proofs.RunTrace.{size-pos, model-drops, none-forces}
 
 -- ---- rows
 

@@ -17,7 +17,8 @@ use Rattle.rules.specs.Run.{Task, Progress, opens, blank, forcedValues, 
 use Rattle.rules.proofs.StatusLaws.{length-forcedValues}
 use Rattle.rules.proofs.KnownLaws.{proper-forcedValues}
 use Rattle.rules.proofs.SearchOrder.{callOn-units}
-use Rattle.rules.proofs.RunTrace.{Reached, next-model, next-none, size-pos, model-drops, none-forces}
+use Rattle.rules.specs.Trace.{Reached, next-model, next-none}
+use Rattle.rules.proofs.RunTrace.{size-pos, model-drops, none-forces}
 
 -- ---- no bound in sight
 

@@ -30,7 +30,8 @@ use Rattle.rules.specs.Log.{LogOf}
 use Rattle.rules.proofs.ListLaws.{never}
 use Rattle.rules.proofs.MeaningLaws.{blank-extends, blank-proper}
 use Rattle.rules.proofs.KnownLaws.{Known, first-model-is}
-use Rattle.rules.proofs.RunTrace.{Reached, first-model, next-model, next-none, Ends, first-none, first-stopped, settled, next-stopped, known, run-ends, first-none-of}
+use Rattle.rules.specs.Trace.{Reached, first-model, next-model, next-none, Ends, first-none, first-stopped, settled, next-stopped}
+use Rattle.rules.proofs.RunTrace.{known, run-ends, first-none-of}
 use Rattle.rules.proofs.LogLaws.{logged, log-begun, stop-log, calls-opens-le, tries-le, LogAt}
 
 -- ---- the models of a run: the first one found is the first in its list

@@ -1,7 +1,7 @@
--- The run, call by call: what progress it can reach, and how it ends. Laws of the run go by induction on `Reached`.
+-- The laws of specs/Trace: what is known at every progress that a run reaches, that every call after the first settles a candidate,
+-- and that every run ends as it says.
 --
---   Reached           progress that a run comes to, with the chunk size that is next
---   Ends              how a run ends; run-ends: every run ends so
+--   run-ends          every run ends so
 --   first-is-model, chunk-is-model, first-none-of     what the calls say of the formula's models
 --   known             what is known at every progress that is reached
 --   size-pos          the chunk size is never 0
@@ -26,24 +26,12 @@ use Rattle.rules.specs.Meaning.{Clause, Values, valueAt, indexOf, trueBy
 use Rattle.rules.specs.Search.{Call, model, no-model, stopped, callOn}
 use Rattle.rules.specs.Models.{Extends, Witness, by-model, by-flip, LeastModel, NoModelFrom}
 use Rattle.rules.specs.Run.{Task, Row, Progress, statusAt, opens, literalAt, candidatesFrom, freedFrom, differs, otherByte, flipped, canFlip, compared, flips, filtered, forcedBy, forceFirst, blank, forcedValue, forcedValues, chunkOf, constraint, chunkCall, afterModel, afterNone, afterStop, Ended, endedBy, begun, onCall, onOpen, chunksIn, chunks, onFirst, firstCall, run}
-use Rattle.rules.proofs.ListLaws.{both, never, any-sound, any-complete, and-left}
+use Rattle.rules.specs.Trace.{Reached, first-model, next-model, next-none, Ends, first-none, first-stopped, settled, next-stopped}
+use Rattle.rules.proofs.ListLaws.{both, never, any-sound, any-complete, and-left, map-in, in-take}
 use Rattle.rules.proofs.MeaningLaws.{set-cases, blank-proper, blank-extends, satisfies-append, satisfies-left, satisfies-right}
 use Rattle.rules.proofs.SearchLaws.{Says, callOn-says}
 use Rattle.rules.proofs.KnownLaws.{Known, first-model-is, otherByte-valued, known-more, known-filtered, known-none, proper-forcedValues}
 use Rattle.rules.proofs.StatusLaws.{freed-counts, opens-freed-lt, ForcedMore, forceFirst-counts, length-freedFrom, freed-at, candidate-open, literalAt-true, literalAt-negated, length-forceFirst, forceFirst-at, length-forcedValues, forcedValues-at, forcedValue-forcedBy, forcedValue-le}
-
--- ---- the calls, one after the other
-
-pub data Reached (k : Task) : ℕ → Progress → Type 0 where
-  first-model : (m : Values) (t : ℕ) → firstCall k ≡ model m t → Reached k 1 (afterModel k (begun k m) 0 m t)
-  next-model : {size : ℕ} {p : Progress} (n : ℕ) (m : Values) (t : ℕ) → Reached k size p → opens (p .statuses) ≡ suc n → chunkCall k p (min size (suc n)) ≡ model m t → Reached k 1 (afterModel k p (min size (suc n)) m t)
-  next-none : {size : ℕ} {p : Progress} (n t : ℕ) → Reached k size p → opens (p .statuses) ≡ suc n → chunkCall k p (min size (suc n)) ≡ no-model t → Reached k (min (size + size) (k .limit)) (afterNone p (min size (suc n)) t)
-
-pub data Ends (k : Task) : Ended → Type 0 where
-  first-none : (t : ℕ) → firstCall k ≡ no-model t → Ends k (endedBy RunAnswer.NoModel (afterNone (begun k []) 0 t))
-  first-stopped : (t : ℕ) → firstCall k ≡ stopped t → Ends k (endedBy RunAnswer.Stopped (afterStop (begun k []) 0 t))
-  settled : {size : ℕ} {p : Progress} → Reached k size p → opens (p .statuses) ≡ 0 → Ends k (endedBy RunAnswer.Settled p)
-  next-stopped : {size : ℕ} {p : Progress} (n t : ℕ) → Reached k size p → opens (p .statuses) ≡ suc n → chunkCall k p (min size (suc n)) ≡ stopped t → Ends k (endedBy RunAnswer.Stopped (afterStop p (min size (suc n)) t))
 
 -- ---- what the calls say
 
@@ -133,17 +121,6 @@ pub size-pos : {k : Task} {size : ℕ} {p : Progress} → 1 ≤ k .limit → Rea
 size-pos h (first-model m t e) = omega arith
 size-pos h (next-model n m t r o e) = omega arith
 size-pos h (next-none {size = size} n t r o e) = omega (arith, size-pos h r)
-
-in-take : {A : Type 0} {x : A} (n : ℕ) (xs : List A) → In x (take n xs) → In x xs
-in-take zero xs h = absurd (List·Memᴰ·not-nil h)
-in-take (suc n) [] h = h
-in-take (suc n) (y ∷ ys) (List·Memᴰ·head e) = List·Memᴰ·head e
-in-take (suc n) (y ∷ ys) (List·Memᴰ·tail h) = List·Memᴰ·tail (in-take n ys h)
-
-map-in : {A B : Type 0} (f : A → B) {y : B} (xs : List A) → In y (map f xs) → (x : A) × In x xs × (y ≡ f x)
-map-in f [] h = absurd (List·Memᴰ·not-nil h)
-map-in f (x ∷ xs) (List·Memᴰ·head e) = (x, List·Memᴰ·head refl, e)
-map-in f (x ∷ xs) (List·Memᴰ·tail h) = let (z, i, e) = map-in f xs h in (z, List·Memᴰ·tail i, e)
 
 -- values that make the constraint of a chunk true differ from the first model at an open variable
 constraint-differs : (first : Values) → Total first → (ss : List ℕ) (n : ℕ) (m : Values) → hasTrue m (constraint (take n (candidatesFrom 0 first ss))) ≡ true → (i : ℕ) × (statusAt ss i ≡ 0) × (differs first m i ≡ true)

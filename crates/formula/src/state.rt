@@ -1,0 +1,48 @@
+// The state of a clause under values, document 01, "Closing".
+use crate::value::LitValue;
+use crate::value::value_of;
+use rules::ClauseState;
+use rules::Lit;
+ghost use mathlib.Core.Path.{_≡_};
+ghost use lib.ListN.{length};
+ghost use Rattle.rules.specs.Closing.{stateOf};
+ghost use Rattle.formula.specs.Clauses.{ClauseUpTo};
+
+// What a clause is: one pass with running flags. A true literal ends it.
+pub fn state_of(clause: &[i32], values: &[u8]) -> ClauseState
+    requires { ⌜ ClauseUpTo (length (now values)) (now clause) ⌝ }
+    ensures { λ r. ⌜ r ≡ stateOf (now (values .entry)) (now (clause .entry)) ⌝ }
+{
+    // The index of the first unset literal, or the length while none was met; and whether another one was met that differs from
+    // it. Distinct literals count and not places: in `1 1 0` there is one.
+    let mut first = clause.len();
+    let mut several = false;
+    let mut i = 0;
+    while i < clause.len() {
+        let l = clause[i];
+        match value_of(Lit(l), values) {
+            LitValue::True => {
+                return ClauseState::True;
+            }
+            LitValue::False => {}
+            LitValue::Unset => {
+                if first < clause.len() {
+                    let unset = clause[first];
+                    if unset != l {
+                        several = true;
+                    }
+                } else {
+                    first = i;
+                }
+            }
+        }
+        i += 1;
+    }
+    if several {
+        ClauseState::Undecided
+    } else if first < clause.len() {
+        ClauseState::Unit(Lit(clause[first]))
+    } else {
+        ClauseState::False
+    }
+}

@@ -1,0 +1,5 @@
+-- Laws that belong to no one function.
+pub mod ValueLaws
+pub mod RoundLaws
+pub mod CloseLaws
+pub mod CallLaws

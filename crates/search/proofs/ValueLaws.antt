@@ -1,0 +1,88 @@
+-- The laws of lent values: the index of a variable, a copy byte by byte, and the search for the lowest unset variable as an
+-- invariant.
+--
+--   pred-of-add-one               the index that the code computes
+--   assign-of-set                 a literal made true by its variable and its sign
+--   copied-more                   a copy of i bytes, and one more
+--   Passed, passed-start, passed-step, passed-unset, passed-done     no variable below i is unset
+--
+-- Assumes nothing.
+use mathlib.Core.Path.{_≡_, refl, sym, _∙_, ap}
+use mathlib.Core.Logic.{_≢_}
+use mathlib.Core.List.{List, [], _∷_, _++_}
+use mathlib.Core.Option.{Option, none, some}
+use Prim.Native.Nat.{ℕ, zero, suc, pred, _+_, _<_, _≤_}
+use native.Mathlib.Omega.{arith}
+use native.Mathlib.Numerals.{add-one}
+use native.Mathlib.Nat.{zero-add, add-zero}
+use lib.IntN.{ℤ}
+use lib.ListN.{getD, set, length, take, drop, drop-of-length-le}
+use lib.Seq.{drop-cons}
+use Rattle.rules.specs.Meaning.{Values, varOf, assign}
+use Rattle.rules.specs.Search.{next, lowestUnset}
+use Rattle.formula.specs.Literals.{isPositive, byteOf}
+use Rattle.formula.proofs.LiteralLaws.{assign-set}
+
+pub pred-of-add-one : (i v : ℕ) → i + 1 ≡ v → i ≡ pred v
+pred-of-add-one i zero e = absurd (omega arith)
+pred-of-add-one i (suc v) e = omega arith
+
+pub assign-of-set : (vs : Values) (l : ℤ) → 1 ≤ varOf l → set vs (pred (varOf l)) (byteOf (isPositive l)) ≡ assign vs l
+assign-of-set vs l h = assign-set vs l (pred (varOf l)) (go (varOf l) h)
+  where
+    go : (v : ℕ) → 1 ≤ v → pred v + 1 ≡ v
+    go zero h = absurd (omega arith)
+    go (suc v) h = omega arith
+
+-- ---- a copy
+
+pub copied-more : (from to : List ℕ) (i : ℕ) → i < length from → i < length to
+    → set (take i from ++ drop i to) i (getD from i 0) ≡ take (i + 1) from ++ drop (i + 1) to
+copied-more from to i h k = rw (add-one i) (go from to i h k)
+  where
+    go : (from to : List ℕ) (i : ℕ) → i < length from → i < length to
+        → set (take i from ++ drop i to) i (getD from i 0) ≡ take (suc i) from ++ drop (suc i) to
+    go [] to i h k = absurd (omega arith)
+    go (x ∷ xs) [] i h k = absurd (omega arith)
+    go (x ∷ xs) (y ∷ ys) zero h k = refl
+    go (x ∷ xs) (y ∷ ys) (suc i) h k = ap (λ (l : List ℕ). x ∷ l) (go xs ys i (omega arith) (omega arith))
+
+-- ---- the lowest unset variable
+
+-- an index in what is left, counted from the start
+abbrev shifted : ℕ → Option ℕ → Option ℕ
+shifted i none = none
+shifted i (some j) = some (i + j)
+
+shifted-next : (i : ℕ) (o : Option ℕ) → shifted i (next o) ≡ shifted (suc i) o
+shifted-next i none = refl
+shifted-next i (some j) = ap (λ (k : ℕ). some k) (omega arith)
+
+-- the lowest unset variable is the lowest one of those from i on
+pub record Passed (vs : Values) (i : ℕ) : Type 0 where
+  pub within : i ≤ length vs
+  pub lowest : shifted i (lowestUnset (drop i vs)) ≡ lowestUnset vs
+
+pub passed-start : (vs : Values) → Passed vs 0
+passed-start vs = record { within = omega arith; lowest = go (lowestUnset vs) }
+  where
+    go : (o : Option ℕ) → shifted 0 o ≡ o
+    go none = refl
+    go (some j) = ap (λ (k : ℕ). some k) (zero-add j)
+
+module _ (vs : Values) (i : ℕ) (h : i < length vs) (p : Passed vs i) where
+  pub passed-unset : getD vs i 0 ≡ 0 → lowestUnset vs ≡ some i
+  passed-unset e =
+      let z : drop i vs ≡ 0 ∷ drop (suc i) vs = drop-cons vs i 0 h ∙ ap (λ (b : ℕ). b ∷ drop (suc i) vs) e in
+      sym (rw z at (p .lowest)) ∙ ap (λ (k : ℕ). some k) (add-zero i)
+
+  pub passed-step : getD vs i 0 ≢ 0 → Passed vs (i + 1)
+  passed-step n =
+      record { within = omega arith; lowest = rw (add-one i) (go (getD vs i 0) n (drop-cons vs i 0 h) ∙ p .lowest) }
+    where
+      go : (b : ℕ) → b ≢ 0 → drop i vs ≡ b ∷ drop (suc i) vs → shifted (suc i) (lowestUnset (drop (suc i) vs)) ≡ shifted i (lowestUnset (drop i vs))
+      go zero n e = absurd (n refl)
+      go (suc b) n e = rw e (sym (shifted-next i (lowestUnset (drop (suc i) vs))))
+
+pub passed-done : (vs : Values) (i : ℕ) → length vs ≤ i → Passed vs i → lowestUnset vs ≡ none
+passed-done vs i h p = sym (rw (drop-of-length-le vs h) at (p .lowest))

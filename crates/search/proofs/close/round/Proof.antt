@@ -1,0 +1,166 @@
+-- `search::close::round` meets its contract. The invariant of its loop: what is left of the round comes to what the whole one comes
+-- to. The measure is the number of clauses left. Assumes nothing.
+use mathlib.Core.Path.{_≡_, sym, _∙_, ap}
+use mathlib.Core.List.{[]}
+use Prim.Native.Nat.{_-_, _<_}
+use native.Mathlib.Omega.{arith}
+use native.Mathlib.Numerals.{add-one}
+use lib.ListN.{getD, length}
+use borrow.Author.Needs.{needs}
+use Rattle.formula.specs.Clauses.{ClauseUpTo}
+use Rattle.formula.specs.Starts.{clauseAt, callClauses}
+use Rattle.formula.proofs.ClauseLaws.{length-callClauses, getD-callClauses, clauseAt-up-to}
+use Rattle.search.proofs.RoundLaws.{Rounding, rounding-start, rounding-false, rounding-unit, rounding-true, rounding-undecided, rounding-done, unit-up-to}
+use Rattle.search.proofs.close.round.Statement.{statement}
+use Rattle.search.proofs.close.round.Tie as tie
+
+abbrev Inv-loop : tie.InvT-loop
+Inv-loop entries starts constraint total values₀ set₀ n₀ values set n = Rounding (callClauses entries constraint total) values₀ n values set
+
+abbrev μ-loop : tie.MeasureT-loop
+μ-loop entries starts constraint total values₀ set₀ n₀ values set n = total - n
+
+loop-holds : tie.Need-loop-holds Inv-loop μ-loop
+loop-holds c = rounding-start _ (c .before .before .args .values .now)
+
+add-n : tie.Need-add-n Inv-loop μ-loop
+add-n c = search needs
+
+clause-at-requires : tie.Need-clause-at-requires Inv-loop μ-loop
+clause-at-requires c κs =
+    let start = c .before .before .before .before in
+    record { starts-are = start .pre .starts-are; some = omega arith; most = omega (arith, c .loop-test .taken, start .pre .total-most) }
+
+-- the clause that was looked up is the next one of the call
+clause-is : (c : tie.After-clause-at Inv-loop μ-loop) → getD (callClauses (c .before .before .before .before .before .args .entries .now) (c .before .before .before .before .before .args .constraint .now) (c .before .before .before .before .before .args .total)) (c .before .before .loop .n) [] ≡ c .clause-at .result .now
+clause-is c =
+    let start = c .before .before .before .before .before in
+    let n = c .before .before .loop .n in
+    getD-callClauses (start .args .entries .now) (start .args .constraint .now) (start .args .total) n (c .before .loop-test .taken) ∙
+    ap (clauseAt (start .args .entries .now) (start .args .constraint .now)) (sym (add-one n)) ∙ sym (c .clause-at .ensures)
+
+-- and is within the call
+in-call : (c : tie.In-loop Inv-loop μ-loop) → c .before .loop .n < length (callClauses (c .before .before .before .before .args .entries .now) (c .before .before .before .before .args .constraint .now) (c .before .before .before .before .args .total))
+in-call c =
+    let start = c .before .before .before .before in
+    rw (length-callClauses (start .args .entries .now) (start .args .constraint .now) (start .args .total) (start .pre .total-most)) (c .loop-test .taken)
+
+-- its literals are of the variables that there are
+up-to : (c : tie.After-clause-at Inv-loop μ-loop) → ClauseUpTo (length (c .before .before .loop .values)) (c .clause-at .result .now)
+up-to c =
+    let start = c .before .before .before .before .before in
+    let n = c .before .before .loop .n in
+    rw (c .before .before .loop .inv .len, c .clause-at .ensures, add-one n)
+    (clauseAt-up-to (length (start .args .values .now)) (start .args .entries .now) (start .args .constraint .now) n (start .pre .over)
+    (omega (arith, c .before .loop-test .taken, start .pre .total-most)))
+
+state-of-requires : tie.Need-state-of-requires Inv-loop μ-loop
+state-of-requires c κs = up-to (c .before)
+
+enum-told : tie.Need-enum-told Inv-loop μ-loop
+enum-told c = search needs
+
+same-length : tie.Need-same-length Inv-loop μ-loop
+same-length c = c .before .before .before .before .before .before .loop .inv .len
+
+returns : tie.Need-returns Inv-loop μ-loop
+returns c =
+    let state = c .before .before in
+    let lookup = state .before .before in
+    let l = lookup .before .before .loop in
+    rounding-false _ _ (l .n) (l .values) (l .set) (lookup .clause-at .result .now) (in-call (lookup .before)) (clause-is lookup) (l .inv)
+    (sym (state .state-of .ensures) ∙ c .enum-told .given .1)
+
+enum-known-l : tie.Need-enum-known-l Inv-loop μ-loop
+enum-known-l c = search needs
+
+make-true-requires : tie.Need-make-true-requires Inv-loop μ-loop
+make-true-requires c κs =
+    let state = c .before .before .before .before in
+    let lookup = state .before .before in
+    unit-up-to _ (lookup .before .before .loop .values) (lookup .clause-at .result .now) (c .before .before .l .given .0 .0) (up-to lookup)
+    (sym (state .state-of .ensures) ∙ c .before .before .l .given .1)
+
+add-set : tie.Need-add-set Inv-loop μ-loop
+add-set c =
+    let in-loop = c .before .before .before .before .before .before .before .before .before .before in
+    omega (arith, in-loop .loop-test .taken, in-loop .before .loop .inv .few, in-loop .before .before .before .before .fits .total)
+
+loop-less : tie.Need-loop-less Inv-loop μ-loop
+loop-less c = search needs
+
+loop-again : tie.Need-loop-again Inv-loop μ-loop
+loop-again c =
+    let unit = c .before .before .before .before .before in
+    let state = unit .before .before in
+    let lookup = state .before .before in
+    let l = lookup .before .before .loop in
+    rw (c .before .before .make-true .ensures)
+    (rounding-unit _ _ (l .n) (l .values) (l .set) (lookup .clause-at .result .now) (in-call (lookup .before)) (clause-is lookup) (l .inv)
+    (unit .l .given .0 .0) (sym (state .state-of .ensures) ∙ unit .l .given .1))
+
+enum-told-2 : tie.Need-enum-told-2 Inv-loop μ-loop
+enum-told-2 c = search needs
+
+loop-less-2 : tie.Need-loop-less-2 Inv-loop μ-loop
+loop-less-2 c = search needs
+
+loop-again-2 : tie.Need-loop-again-2 Inv-loop μ-loop
+loop-again-2 c =
+    let state = c .before .before in
+    let lookup = state .before .before in
+    let l = lookup .before .before .loop in
+    rounding-true _ _ (l .n) (l .values) (l .set) (lookup .clause-at .result .now) (in-call (lookup .before)) (clause-is lookup) (l .inv)
+    (sym (state .state-of .ensures) ∙ c .enum-told2 .given .1)
+
+enum-told-3 : tie.Need-enum-told-3 Inv-loop μ-loop
+enum-told-3 c = search needs
+
+loop-less-3 : tie.Need-loop-less-3 Inv-loop μ-loop
+loop-less-3 c = search needs
+
+loop-again-3 : tie.Need-loop-again-3 Inv-loop μ-loop
+loop-again-3 c =
+    let state = c .before .before in
+    let lookup = state .before .before in
+    let l = lookup .before .before .loop in
+    rounding-undecided _ _ (l .n) (l .values) (l .set) (lookup .clause-at .result .now) (in-call (lookup .before)) (clause-is lookup) (l .inv)
+    (sym (state .state-of .ensures) ∙ c .enum-told3 .given .1)
+
+same-length-2 : tie.Need-same-length-2 Inv-loop μ-loop
+same-length-2 c = c .before .loop .inv .len
+
+returns-2 : tie.Need-returns-2 Inv-loop μ-loop
+returns-2 c =
+    let l = c .before .loop in
+    let start = c .before .before .before .before in
+    rounding-done _ _ (l .n) (l .values) (l .set)
+    (rw (length-callClauses (start .args .entries .now) (start .args .constraint .now) (start .args .total) (start .pre .total-most)) (c .loop-test .left))
+    (l .inv)
+
+pub round-spec : {M : Type 1} → statement M
+round-spec =
+    tie.close
+    (tie.spec
+    Inv-loop
+    μ-loop
+    loop-holds
+    add-n
+    clause-at-requires
+    state-of-requires
+    enum-told
+    same-length
+    returns
+    enum-known-l
+    make-true-requires
+    add-set
+    loop-less
+    loop-again
+    enum-told-2
+    loop-less-2
+    loop-again-2
+    enum-told-3
+    loop-less-3
+    loop-again-3
+    same-length-2
+    returns-2)

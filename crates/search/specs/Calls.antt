@@ -1,0 +1,61 @@
+-- What a call requires, and what it promises of its result and of the values that it is lent. Assumes nothing.
+use mathlib.Core.Path.{_≡_}
+use mathlib.Core.Bool.{Bool}
+use mathlib.Core.List.{List}
+use Prim.Native.Nat.{ℕ, pred, _≤_}
+use lib.IntN.{ℤ}
+use lib.ListN.{length}
+use Rattle.rules.specs.declared.Outcome.{Outcome}
+use Rattle.rules.specs.Numbers.{maxVars}
+use Rattle.rules.specs.Meaning.{Clause, Values, valueAt}
+use Rattle.rules.specs.Search.{Call, model, no-model, stopped, outcomeOf, triesOf, try, callOn}
+use Rattle.formula.specs.Literals.{byteOf}
+use Rattle.search.specs.declared.meter.Meter.{Meter}
+use Rattle.search.specs.declared.call.CallEnd.{CallEnd}
+use Rattle.search.specs.Choices.{VarUpTo}
+use Rattle.search.specs.Closings.{WellFormed}
+
+-- ---- what is required
+
+-- a byte for each variable, of which there are no more than 256, and a formula over them
+pub record CallReady (vs : Values) (es : List ℤ) (starts : List ℕ) (con : Clause) (total : ℕ) : Type 0 where
+  pub vars-fit : length vs ≤ maxVars
+  pub well-formed : WellFormed (length vs) es starts con total
+
+-- and for a try a variable that is unset
+pub record TryReady (vs : Values) (es : List ℤ) (starts : List ℕ) (con : Clause) (total v : ℕ) : Type 0 where
+  pub ready : CallReady vs es starts con total
+  pub variable : VarUpTo (length vs) v
+  pub unset : valueAt vs (pred v) ≡ 0
+
+-- ---- what is promised
+
+-- the values behind a call: the model, if one was found; otherwise those at the start
+abbrev pub valuesAfter : Call → Values → Values
+valuesAfter (model m t) vs = m
+valuesAfter (no-model t) vs = vs
+valuesAfter (stopped t) vs = vs
+
+-- a call from the values vs ended as c
+pub record CallEnds (c : Call) (vs : Values) (budget : ℕ) (result : CallEnd) (after : Values) : Type 0 where
+  pub outcome-is : result .outcome ≡ outcomeOf c
+  pub spent-is : result .meter .spent ≡ triesOf c
+  pub budget-is : result .meter .budget ≡ budget
+  pub values-are : after ≡ valuesAfter c vs
+
+-- a call on the clauses F from vs, with the meter m
+abbrev pub Calls : List Clause → Values → Meter → CallEnd → Values → Type 0
+Calls F vs m result after = CallEnds (callOn (m .budget) F vs (m .spent)) vs (m .budget) result after
+
+-- a try of the value x for variable v, from which calls go on
+abbrev pub Tries : List Clause → Values → Meter → ℕ → Bool → CallEnd → Values → Type 0
+Tries F vs m v x result after =
+    CallEnds (try (m .budget) (callOn (m .budget) F) vs (pred v) (byteOf x) (m .spent)) vs (m .budget) result after
+
+-- ---- taking back
+
+-- the values found stay if they are a model; otherwise those saved come back
+abbrev pub unlessModel : Outcome → Values → Values → Values
+unlessModel Outcome.Model found saved = found
+unlessModel Outcome.NoModel found saved = saved
+unlessModel Outcome.Stopped found saved = saved

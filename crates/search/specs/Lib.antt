@@ -1,0 +1,5 @@
+-- The definitions that the contracts cite, beside those of `rules` and `formula`.
+pub mod Choices
+pub mod Meters
+pub mod Closings
+pub mod Calls

@@ -1,0 +1,80 @@
+// Closing by rounds, document 01, "Closing": every clause once, in order, setting units as they are met, until a round sets nothing
+// or a clause is false.
+use crate::values::make_true;
+use formula::clause::clause_at;
+use formula::state::state_of;
+use rules::ClauseNo;
+use rules::ClauseState;
+ghost use mathlib.Core.Path.{_≡_};
+ghost use lib.ListN.{length};
+ghost use Rattle.rules.specs.Closing.{under-way, round, closing};
+ghost use Rattle.formula.specs.Starts.{callClauses};
+ghost use Rattle.search.specs.Closings.{WellFormed, roundOf, closedOf};
+
+// What a round ends with: a false clause, or the number of literals that it set.
+pub enum RoundEnd {
+    AtFalse,
+    UnderWay(u32),
+}
+
+// What closing ends with: a clash, or the closed set in the lent values.
+pub enum Closing {
+    Clash,
+    Closed,
+}
+
+// One round over clauses 1 to `total`.
+pub fn round<'a>(
+    entries: &'a [i32],
+    starts: &[u16],
+    constraint: &'a [i32],
+    total: u32,
+    values: &mut [u8],
+) -> RoundEnd
+    requires { ⌜ WellFormed (length (now values)) (now entries) (now starts) (now constraint) total ⌝ }
+    ensures { λ r. ⌜ round (callClauses (now (entries .entry)) (now (constraint .entry)) total) (under-way (now (values .entry)) 0) ≡ roundOf r (now (values .exit)) ⌝ }
+{
+    let mut set = 0;
+    let mut n = 0;
+    while n < total {
+        n += 1;
+        let clause = clause_at(entries, starts, constraint, ClauseNo(n));
+        match state_of(clause, values) {
+            ClauseState::False => {
+                return RoundEnd::AtFalse;
+            }
+            ClauseState::Unit(l) => {
+                make_true(values, l);
+                set += 1;
+            }
+            ClauseState::True => {}
+            ClauseState::Undecided => {}
+        }
+    }
+    RoundEnd::UnderWay(set)
+}
+
+// Rounds until one sets nothing, or meets a false clause. After a clash the values are somewhere between.
+pub fn close<'a>(
+    entries: &'a [i32],
+    starts: &[u16],
+    constraint: &'a [i32],
+    total: u32,
+    values: &mut [u8],
+) -> Closing
+    requires { ⌜ WellFormed (length (now values)) (now entries) (now starts) (now constraint) total ⌝ }
+    ensures { λ r. ⌜ closing (callClauses (now (entries .entry)) (now (constraint .entry)) total) (now (values .entry)) ≡ closedOf r (now (values .exit)) ⌝ }
+{
+    loop {
+        match round(entries, starts, constraint, total, values) {
+            RoundEnd::AtFalse => {
+                return Closing::Clash;
+            }
+            RoundEnd::UnderWay(set) => {
+                if set == 0 {
+                    return Closing::Closed;
+                }
+            }
+        }
+    }
+}

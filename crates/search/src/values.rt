@@ -1,0 +1,75 @@
+// Values that are lent, a byte for each variable: setting one, the choice, and a copy for taking back.
+use formula::lit::sign;
+use formula::lit::var_of;
+use formula::value::byte_of;
+use formula::value::index_of;
+use rules::Lit;
+use rules::Var;
+ghost use mathlib.Core.Path.{_≡_};
+ghost use mathlib.Core.List.{_++_};
+ghost use Prim.Native.Nat.{pred, _≤_};
+ghost use lib.ListN.{length, set, take, drop};
+ghost use Rattle.rules.specs.Numbers.{maxVars};
+ghost use Rattle.rules.specs.Meaning.{LitUpTo, assign};
+ghost use Rattle.rules.specs.Search.{lowestUnset};
+ghost use Rattle.formula.specs.Literals.{byteOf};
+ghost use Rattle.search.specs.Choices.{VarUpTo, choiceOf};
+
+// What is tried next: a variable, unless all are set.
+pub enum Choice {
+    AllSet,
+    Unset(Var),
+}
+
+// Gives a variable a value.
+pub fn set_value(values: &mut [u8], v: Var, value: bool)
+    requires { ⌜ VarUpTo (length (now values)) (v .0) ⌝ }
+    ensures { λ _. ⌜ now (values .exit) ≡ set (now (values .entry)) (pred (v .0)) (byteOf value) ⌝ }
+{
+    let at = index_of(v);
+    values[at] = byte_of(value);
+}
+
+// Takes a variable's value away.
+pub fn unset_value(values: &mut [u8], v: Var)
+    requires { ⌜ VarUpTo (length (now values)) (v .0) ⌝ }
+    ensures { λ _. ⌜ now (values .exit) ≡ set (now (values .entry)) (pred (v .0)) 0 ⌝ }
+{
+    let at = index_of(v);
+    values[at] = 0;
+}
+
+// Makes a literal true.
+pub fn make_true(values: &mut [u8], l: Lit)
+    requires { ⌜ LitUpTo (length (now values)) (l .0) ⌝ }
+    ensures { λ _. ⌜ now (values .exit) ≡ assign (now (values .entry)) (l .0) ⌝ }
+{
+    set_value(values, var_of(l), sign(l));
+}
+
+// The lowest unset variable, if not all are set.
+pub fn lowest_unset(values: &[u8]) -> Choice
+    requires { ⌜ length (now values) ≤ maxVars ⌝ }
+    ensures { λ r. ⌜ r ≡ choiceOf (lowestUnset (now (values .entry))) ⌝ }
+{
+    let mut i = 0;
+    while i < values.len() {
+        if values[i] == 0 {
+            return Choice::Unset(Var(i as u32 + 1));
+        }
+        i += 1;
+    }
+    Choice::AllSet
+}
+
+// Copies the first n bytes of one slice to another one, whose rest stays.
+pub fn copy_first(from: &[u8], to: &mut [u8], n: usize)
+    requires { ⌜ (n ≤ length (now from)) × (n ≤ length (now to)) ⌝ }
+    ensures { λ _. ⌜ now (to .exit) ≡ take n (now (from .entry)) ++ drop n (now (to .entry)) ⌝ }
+{
+    let mut done = 0;
+    while done < n {
+        to[done] = from[done];
+        done += 1;
+    }
+}

@@ -1,0 +1,35 @@
+// The deepest search: 256 variables and no clause, so that a try is made for each, one below the other. It prints what the call ends
+// with, as in the log (1 model, 2 none, 3 stopped), and the tries. tests/stack.sh runs it on a stack of 512 KB.
+use formula::starts::find_starts;
+use libc::STDOUT_FILENO;
+use rules::Outcome;
+use search::call::go_on;
+use search::meter::Meter;
+
+fn number_of(outcome: Outcome) -> u64 {
+    match outcome {
+        Outcome::Model => 1,
+        Outcome::NoModel => 2,
+        Outcome::Stopped => 3,
+    }
+}
+
+fn main() {
+    let list = [0i32; 1];
+    let none = &list[..0];
+    let mut starts = [0u16; 1];
+    find_starts(none, &mut starts);
+    let mut values = [0u8; 256];
+    let meter = Meter {
+        budget: 1000,
+        spent: 0,
+    };
+    let end = go_on(none, &starts, none, 0, &mut values, meter);
+    let outcome = end.outcome;
+    io::write_all(STDOUT_FILENO, b"outcome ");
+    io::print_decimal(STDOUT_FILENO, number_of(outcome));
+    io::write_all(STDOUT_FILENO, b" tries ");
+    let tries = end.meter.spent;
+    io::print_decimal(STDOUT_FILENO, tries as u64);
+    io::write_all(STDOUT_FILENO, b"\n");
+}
