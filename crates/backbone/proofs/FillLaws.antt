@@ -1,0 +1,34 @@
+-- Filling a buffer from end to end, one element a turn.
+--
+--   Filled, filled-start, filled-step, filled-done     the loop that fills a buffer with a list of its length
+--
+-- Assumes nothing.
+use mathlib.Core.Path.{_≡_, refl, sym, _∙_, ap}
+use mathlib.Core.List.{List, [], _∷_, _++_}
+use Prim.Native.Nat.{ℕ, zero, suc, _+_, _≤_, _<_}
+use native.Mathlib.Omega.{arith}
+use native.Mathlib.Numerals.{add-one}
+use lib.ListN.{length, getD, set, take, length-set}
+use lib.Seq.{take-suc, take-suc-set, take-all}
+
+-- the first i elements are those of the target
+pub record Filled {A : Type 0} (target : List A) (i : ℕ) (now : List A) : Type 0 where
+  pub within : i ≤ length now
+  pub len : length now ≡ length target
+  pub front : take i now ≡ take i target
+
+module _ {A : Type 0} where
+  pub filled-start : (target now : List A) → length now ≡ length target → Filled target 0 now
+  filled-start target now e = record { within = omega arith; len = e; front = refl }
+
+  pub filled-step : {target now : List A} {i : ℕ} (d x : A) → Filled target i now → i < length now → getD target i d ≡ x → Filled target (i + 1) (set now i x)
+  filled-step {target} {now} {i} d x w h e =
+      record {
+        within = omega (arith, length-set now i x);
+        len = length-set now i x ∙ w .len;
+        front = rw add-one (take-suc-set now i x h ∙ ap (λ (xs : List A). xs ++ (x ∷ [])) (w .front) ∙ ap (λ (y : A). take i target ++ (y ∷ [])) (sym e) ∙ sym (take-suc target i d (omega (arith, w .len))));
+      }
+
+  pub filled-done : {target now : List A} {i : ℕ} → Filled target i now → length now ≤ i → now ≡ target
+  filled-done {target} {now} {i} w h =
+      sym (take-all i now h) ∙ w .front ∙ take-all i target (omega (arith, w .len))

@@ -1,0 +1,124 @@
+-- The laws of specs/First: the run by its first call.
+--
+--   shows-begun, ready-begun     cleared buffers show a run that has begun, and there is room for its first row
+--   formula-ready, first-called     what the first call needs, and what its end says
+--   done              a run that has ended as the state and the buffers show is done
+--   done-at-once      the first call found no model, or was stopped
+--   first-at, run-from-model     the first call found a model
+--
+-- Assumes nothing.
+use mathlib.Core.Path.{_≡_, refl, sym, _∙_, ap}
+use mathlib.Core.Logic.{_≢_}
+use mathlib.Core.List.{List, [], _∷_}
+use Prim.Native.Nat.{ℕ, _+_, _-_, _*_, _≤_}
+use native.Mathlib.Omega.{arith}
+use lib.IntN.{ℤ}
+use lib.ListN.{length, replicate, length-replicate}
+use lib.Seq.{sets}
+use Rattle.rules.specs.declared.Outcome.{Outcome}
+use Rattle.rules.specs.declared.RunAnswer.{RunAnswer}
+use Rattle.rules.specs.declared.Report.{Report}
+use Rattle.rules.specs.Numbers.{outcomeNumber, maxVars}
+use Rattle.rules.specs.Meaning.{Values, clauses}
+use Rattle.rules.specs.Search.{Call, model, callOn}
+use Rattle.rules.specs.Run.{blank, Task, Progress, Ended, begun, afterModel, firstCall, onFirst, chunks, run}
+use Rattle.rules.specs.Trace.{Reached, first-model}
+use Rattle.rules.specs.Answer.{logLength, reportOfRun}
+use Rattle.rules.proofs.LogLaws.{blank-counts}
+use Rattle.formula.specs.Starts.{callClauses}
+use Rattle.formula.proofs.ClauseLaws.{callClauses-formula}
+use Rattle.search.specs.declared.call.CallEnd.{CallEnd}
+use Rattle.search.specs.Calls.{CallReady, CallEnds}
+use Rattle.backbone.specs.declared.step.State.{State}
+use Rattle.backbone.specs.Flip.{Formula}
+use Rattle.backbone.specs.Step.{Shows, StepReady}
+use Rattle.backbone.specs.Calls.{At}
+use Rattle.backbone.specs.First.{answerOf, endOf, Cleared, RunDone}
+use Rattle.backbone.proofs.StepLaws.{shows-row}
+
+-- before the first call
+abbrev pub started : ℕ → State
+started vars = record { size = 1; left = vars; calls = 0; tries = 0; free = 0; forced = 0 }
+
+module _ {status log : List ℕ} (w : Cleared status log) where
+  pub log-len : length log ≡ logLength (length status)
+  log-len = ap length (w .log-is) ∙ length-replicate (logLength (length status)) 0
+
+  pub shows-begun : (k : Task) (m : Values) {first : List ℕ} {left : ℕ} → k .vars ≡ length status → first ≡ m → left ≡ k .vars → Shows (k .vars) (begun k m) (started left) first status log
+  shows-begun k m e f n =
+      let (a, d, o) = blank-counts (k .vars) in
+      record {
+        first-is = f;
+        status-is = w .status-is ∙ ap (λ (n : ℕ). replicate n 0) (sym e);
+        log-is = w .log-is ∙ ap (λ (n : ℕ). replicate n 0) all;
+        left-is = n ∙ sym o;
+        calls-is = refl;
+        tries-is = refl;
+        free-is = sym a;
+        forced-is = sym d;
+      }
+    where
+      all : logLength (length status) ≡ logLength (k .vars) - 6 * 0
+      all = omega (arith, e)
+
+  pub ready-begun : {first : List ℕ} {left : ℕ} → length first ≡ length status → left ≡ length status → length status ≤ maxVars → (spent : ℕ) → StepReady first status log (started left) spent
+  ready-begun e n h spent =
+      record {
+        len = e;
+        vars-fit = h;
+        log-room = omega (arith, log-len);
+        calls-fit = omega arith;
+        left-is = n ∙ sym (ap Rattle.rules.specs.Run.opens (w .status-is) ∙ blank-counts (length status) .2);
+        free-fit = omega arith;
+        forced-fit = omega arith;
+        tries-up = omega arith;
+      }
+
+-- ---- the first call
+
+module _ {es : List ℤ} {starts : List ℕ} {count n : ℕ} (f : Formula n es starts count) where
+  pub formula-ready : (vs : Values) → length vs ≡ n → CallReady vs es starts [] count
+  formula-ready vs e =
+      record {
+        vars-fit = omega (arith, f .vars-fit);
+        well-formed = record { starts-are = f .starts-are; over = rw e (f .over); total-most = omega (arith, f .count-is) };
+      }
+
+  pub first-called : (k : Task) → k .formula ≡ clauses es → {vs after : Values} {r : CallEnd} → vs ≡ blank (k .vars) → CallEnds (callOn (k .budget) (callClauses es [] count) vs 0) vs (k .budget) r after → CallEnds (firstCall k) vs (k .budget) r after
+  unfolding firstCall
+  first-called k q {vs} {after} {r} v w =
+      rw (q, ← callClauses-formula es [], ← f .count-is, ← v) w
+
+-- ---- the run by its end
+
+pub done : {k : Task} {e : Ended} {a : RunAnswer} {s : State} {first status log : List ℕ} → run k ≡ e → a ≡ e .answer → Shows (k .vars) (e .progress) s first status log → RunDone k (record { answer = a; calls = s .calls; tries = s .tries; forced = s .forced; free = s .free }) status log
+done {k} {e} {a} {s} q h w =
+    record {
+      result-is = same ∙ ap reportOfRun (sym q);
+      status-is = w .status-is ∙ ap (λ (d : Ended). d .progress .statuses) (sym q);
+      log-is = w .log-is ∙ ap (λ (d : Ended). Rattle.rules.specs.Answer.logOfRows (k .vars) (d .progress .rows)) (sym q);
+    }
+  where
+    same : _≡_ {A = Report} (record { answer = a; calls = s .calls; tries = s .tries; forced = s .forced; free = s .free }) (reportOfRun e)
+    same = cc (h, w .calls-is, w .tries-is, w .forced-is, w .free-is)
+
+run-first : (k : Task) (c : Call) → firstCall k ≡ c → run k ≡ onFirst c k
+unfolding run
+run-first k c e = ap (λ (d : Call). onFirst d k) e
+
+pub done-at-once : (k : Task) (o : Outcome) (t : ℕ) {status log log′ : List ℕ} → Cleared status log → k .vars ≡ length status → firstCall k ≡ endOf o t → o ≢ Outcome.Model → log′ ≡ sets log 0 (1 ∷ outcomeNumber o ∷ 0 ∷ 0 ∷ 0 ∷ (t - 0) ∷ []) → RunDone k (record { answer = answerOf o; calls = 1; tries = t; forced = 0; free = 0 }) status log′
+done-at-once k Outcome.Model t w v e h l = absurd (h refl)
+done-at-once k Outcome.NoModel t w v e h l =
+    done (run-first k _ e) refl (shows-row k (begun k []) (started (k .vars)) (shows-begun w k [] v refl refl) (omega (arith, log-len w, v)) Outcome.NoModel 0 t l)
+done-at-once k Outcome.Stopped t w v e h l =
+    done (run-first k _ e) refl (shows-row k (begun k []) (started (k .vars)) (shows-begun w k [] v refl refl) (omega (arith, log-len w, v)) Outcome.Stopped 0 t l)
+
+pub reached-first : (k : Task) (m : Values) (t : ℕ) → firstCall k ≡ model m t → {size : ℕ} → size ≡ 1 → Reached k size (afterModel k (begun k m) 0 m t)
+reached-first k m t e z = rw z (first-model m t e)
+
+abbrev pub first-at : (k : Task) (m : Values) (t : ℕ) → firstCall k ≡ model m t → {s : State} {first status log : List ℕ} → (s .size ≡ 1) × Shows (k .vars) (afterModel k (begun k m) 0 m t) s first status log → At k s first status log
+first-at k m t e w =
+    record { progress = afterModel k (begun k m) 0 m t; reached = reached-first k m t e (w .0); shows = w .1 }
+
+pub run-from-model : (k : Task) (m : Values) (t : ℕ) → firstCall k ≡ model m t → {size : ℕ} → size ≡ 1 → run k ≡ chunks k size (afterModel k (begun k m) 0 m t)
+run-from-model k m t e z = run-first k (model m t) e ∙ ap (λ (n : ℕ). chunks k n (afterModel k (begun k m) 0 m t)) (sym z)

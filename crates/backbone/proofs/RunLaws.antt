@@ -1,0 +1,80 @@
+-- The laws of `run`: what is refused, and what is accepted.
+--
+--   runs-refused      a refused run: zero counts, and nothing is written
+--   runs-accepted     an accepted one: the run over the fronts of the buffers
+--   accepted          what no rule refuses
+--   listing           and the fronts of its buffers
+--
+-- Assumes nothing.
+use mathlib.Core.Path.{_≡_, refl, sym, _∙_, ap}
+use mathlib.Core.List.{List, _++_}
+use mathlib.Core.Option.{Option, none, some}
+use Prim.Native.Nat.{ℕ, _≤_}
+use native.Mathlib.Omega.{arith}
+use lib.ListN.{length, take, drop}
+use lib.Seq.{length-take-le}
+use Rattle.rules.specs.declared.RunAnswer.{RunAnswer}
+use Rattle.rules.specs.declared.Report.{Report}
+use Rattle.rules.specs.Run.{Task, run}
+use Rattle.rules.specs.Answer.{Given, logLength, refusalOf, taskOf, reportIf, reportOf, statusIf, statusAfter, logOfRows, logIf, logAfter, Runs}
+use Rattle.rules.specs.RunRefusals.{Accepted}
+use Rattle.rules.proofs.RefusedRuns.{run-accepted}
+use Rattle.backbone.specs.declared.refuse.Refusal.the-variants.{Accepted as NotRefused, Refused}
+use Rattle.backbone.specs.Refuse.{found}
+use Rattle.backbone.specs.Calls.{task}
+use Rattle.backbone.specs.First.{RunDone, Listing}
+
+found-some : (o : Option RunAnswer) {a : RunAnswer} → Refused a ≡ found o → o ≡ some a
+found-some none e = absurd (let y : _≡_ {A = ℕ} 0 1 = cc in omega arith)
+found-some (some b) e = cc
+
+found-none : (o : Option RunAnswer) → NotRefused ≡ found o → o ≡ none
+found-none none e = refl
+found-none (some b) e = absurd (let y : _≡_ {A = ℕ} 0 1 = cc in omega arith)
+
+module _ (g : Given) where
+  pub runs-refused : {a : RunAnswer} → Refused a ≡ found (refusalOf g) → Runs g (record { answer = a; calls = 0; tries = 0; forced = 0; free = 0 }) (g .status) (g .log)
+  unfolding reportOf statusAfter logAfter
+  runs-refused e =
+      let o = found-some (refusalOf g) e in
+      record {
+        result-is = ap (λ (r : Option RunAnswer). reportIf r (taskOf g)) (sym o);
+        status-is = ap (λ (r : Option RunAnswer). statusIf r (taskOf g) (g .status)) (sym o);
+        log-is = ap (λ (r : Option RunAnswer). logIf r (taskOf g) (g .log)) (sym o);
+      }
+
+  module _ (e : NotRefused ≡ found (refusalOf g)) where
+    pub accepted : Accepted g
+    accepted = run-accepted g .0 (found-none (refusalOf g) e)
+
+    status-len : length (take (g .vars) (g .status)) ≡ g .vars
+    status-len = length-take-le (g .vars) (g .status) (accepted .listed .lent .status-fits)
+
+    pub listing : Listing (g .entries) (g .limit) (take (g .vars) (g .status)) (take (logLength (g .vars)) (g .log))
+    listing =
+        let l = accepted .listed in
+        let i = l .lent .in-limits in
+        record {
+          vars-fit = rw status-len (i .vars-fit);
+          log-len = length-take-le (logLength (g .vars)) (g .log) (l .lent .log-fits) ∙ ap logLength (sym status-len);
+          limit-some = i .limit-some;
+          limit-fits = i .limit-fits;
+          entries-fit = l .entries-fit;
+          clauses-fit = l .clauses-fit;
+          up-to = rw status-len (accepted .up-to);
+        }
+
+    pub runs-accepted : {r : Report} {status log : List ℕ} → RunDone (task (g .entries) (length (take (g .vars) (g .status))) (g .budget) (g .limit)) r status log → Runs g r (status ++ drop (g .vars) (g .status)) (log ++ drop (logLength (g .vars)) (g .log))
+    unfolding reportOf statusAfter logAfter
+    runs-accepted {r} {status} {log} w = go (rw status-len at w)
+      where
+        o : refusalOf g ≡ none
+        o = found-none (refusalOf g) e
+
+        go : RunDone (taskOf g) r status log → Runs g r (status ++ drop (g .vars) (g .status)) (log ++ drop (logLength (g .vars)) (g .log))
+        go w =
+            record {
+              result-is = w .result-is ∙ ap (λ (r : Option RunAnswer). reportIf r (taskOf g)) (sym o);
+              status-is = ap (λ (xs : List ℕ). xs ++ drop (g .vars) (g .status)) (w .status-is) ∙ ap (λ (r : Option RunAnswer). statusIf r (taskOf g) (g .status)) (sym o);
+              log-is = ap (λ (xs : List ℕ). xs ++ drop (logLength (g .vars)) (g .log)) (w .log-is) ∙ ap (λ (r : Option RunAnswer). logIf r (taskOf g) (g .log)) (sym o);
+            }

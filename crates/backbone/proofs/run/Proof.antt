@@ -1,0 +1,94 @@
+-- `run` meets its contract: what is refused writes nothing; what is accepted writes the fronts of both buffers. Assumes nothing.
+use mathlib.Core.Path.{_≡_, sym, _∙_}
+use borrow.Author.Needs.{needs}
+use Rattle.rules.specs.Answer.{Given, refusalOf}
+use Rattle.backbone.specs.declared.refuse.Refusal.the-variants.{Accepted}
+use Rattle.backbone.specs.Refuse.{found, given}
+use Rattle.backbone.proofs.ListingLaws.{front-len}
+use Rattle.backbone.proofs.RunLaws.{accepted, listing, runs-refused, runs-accepted}
+use Rattle.backbone.proofs.run.Statement.{statement}
+use Rattle.backbone.proofs.run.Tie as tie
+
+refuse-requires : tie.Need-refuse-requires
+refuse-requires c κs = search needs
+
+enum-known-refusal : tie.Need-enum-known-refusal
+enum-known-refusal c = search needs
+
+enum-told : tie.Need-enum-told
+enum-told c = search needs
+
+-- what the run is given, and that it was not refused
+abbrev the-given : tie.Start → Given
+the-given s = given (s .args .entries .now) (s .args .vars) (s .args .budget) (s .args .«chunk-limit») (s .args .status .now) (s .args .log .now)
+
+said : (c : tie.After-enum-told) → Accepted ≡ found (refusalOf (the-given (c .before .before .before .before .before .before .before)))
+said c = sym (c .enum-told .given .1) ∙ c .before .before .refuse .ensures (c .before .before .before .before .before .before .before .args .budget)
+
+open-run : (c : tie.After-enum-told) → Rattle.rules.specs.RunRefusals.Accepted (the-given (c .before .before .before .before .before .before .before))
+open-run c = accepted (the-given (c .before .before .before .before .before .before .before)) (said c)
+
+slice-relend-prefix-accepted-run : tie.Need-slice-relend-prefix-accepted-run
+slice-relend-prefix-accepted-run c = open-run c .listed .lent .status-fits
+
+slice-aggregate-accepted-run : tie.Need-slice-aggregate-accepted-run
+slice-aggregate-accepted-run c = front-len _ _ (open-run (c .before) .listed .lent .status-fits)
+
+add-accepted-run : tie.Need-add-accepted-run
+add-accepted-run c = search needs
+
+mul-accepted-run : tie.Need-mul-accepted-run
+mul-accepted-run c = search needs
+
+slice-relend-prefix-accepted-run-2 : tie.Need-slice-relend-prefix-accepted-run-2
+slice-relend-prefix-accepted-run-2 c = open-run (c .before) .listed .lent .log-fits
+
+slice-aggregate-accepted-run-2 : tie.Need-slice-aggregate-accepted-run-2
+slice-aggregate-accepted-run-2 c = front-len _ _ (open-run (c .before .before) .listed .lent .log-fits)
+
+accepted-run-requires : tie.Need-accepted-run-requires
+accepted-run-requires c κs = listing (the-given (c .before .before .before .before .before .before .before .before .before)) (said (c .before .before))
+
+same-length : tie.Need-same-length
+same-length c = search needs
+
+same-length-2 : tie.Need-same-length-2
+same-length-2 c = search needs
+
+returns : tie.Need-returns
+returns c =
+    let s = c .before .before .before .before .before .before .before .before in
+    runs-refused (the-given s) (sym (c .before .refusal .given .1) ∙ c .before .before .before .refuse .ensures (s .args .budget))
+
+same-length-3 : tie.Need-same-length-3
+same-length-3 c = search needs
+
+same-length-4 : tie.Need-same-length-4
+same-length-4 c = search needs
+
+returns-2 : tie.Need-returns-2
+returns-2 c =
+    let ran = c .before .before .before .before in
+    let told = ran .before .before .before in
+    runs-accepted (the-given (told .before .before .before .before .before .before .before)) (said told) (ran .accepted-run .ensures)
+
+pub run-spec : {M : Type 1} → statement M
+run-spec =
+    tie.close
+    (tie.spec
+    refuse-requires
+    enum-known-refusal
+    enum-told
+    slice-relend-prefix-accepted-run
+    slice-aggregate-accepted-run
+    add-accepted-run
+    mul-accepted-run
+    slice-relend-prefix-accepted-run-2
+    slice-aggregate-accepted-run-2
+    accepted-run-requires
+    same-length
+    same-length-2
+    returns
+    same-length-3
+    same-length-4
+    returns-2)

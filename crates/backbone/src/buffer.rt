@@ -1,0 +1,37 @@
+// Buffers of bytes and numbers, filled from end to end.
+ghost use mathlib.Core.Path.{_≡_};
+ghost use lib.ListN.{length, replicate};
+
+// Sets every byte to 0.
+pub fn clear_bytes(bytes: &mut [u8])
+    ensures { λ _. ⌜ now (bytes .exit) ≡ replicate (length (now (bytes .entry))) 0 ⌝ }
+{
+    let mut i: usize = 0;
+    while i < bytes.len() {
+        bytes[i] = 0;
+        i += 1;
+    }
+}
+
+// Sets every number to 0.
+pub fn clear_numbers(numbers: &mut [u32])
+    ensures { λ _. ⌜ now (numbers .exit) ≡ replicate (length (now (numbers .entry))) 0 ⌝ }
+{
+    let mut i: usize = 0;
+    while i < numbers.len() {
+        numbers[i] = 0;
+        i += 1;
+    }
+}
+
+// Copies the bytes of one buffer to another of the same length.
+pub fn copy(from: &[u8], to: &mut [u8])
+    requires { ⌜ length (now from) ≡ length (now to) ⌝ }
+    ensures { λ _. ⌜ now (to .exit) ≡ now (from .entry) ⌝ }
+{
+    let mut i: usize = 0;
+    while i < to.len() {
+        to[i] = from[i];
+        i += 1;
+    }
+}

@@ -1,0 +1,48 @@
+// The backbone run: which literals every model contains, which variables are free (document 01, "Run").
+ghost use Rattle.rules.specs.Answer.{Runs};
+ghost use Rattle.backbone.specs.Refuse.{given};
+
+mod buffer;
+mod calls;
+mod chunk;
+mod constraint;
+mod filter;
+mod first;
+mod flip;
+mod refuse;
+mod row;
+mod step;
+
+// A run (document 01, "Run" and "What comes back"): for each of the variables 1 to vars, whether it is forced or free, and a row for
+// each call. Every list, every pair of buffers and every limit is answered; what is refused writes nothing.
+pub fn run(
+    entries: &[i32],
+    vars: u32,
+    budget: u32,
+    chunk_limit: u32,
+    status: &mut [u8],
+    log: &mut [u32],
+) -> rules::Report
+    ensures { λ r. ⌜ Runs (given (now (entries .entry)) vars budget «chunk_limit» (now (status .entry)) (now (log .entry))) r (now (status .exit)) (now (log .exit)) ⌝ }
+{
+    let refusal = refuse::refuse(entries, vars, chunk_limit, status, log);
+    match refusal {
+        refuse::Refusal::Refused(answer) => rules::Report {
+            answer: answer,
+            calls: 0,
+            tries: 0,
+            forced: 0,
+            free: 0,
+        },
+        refuse::Refusal::Accepted => {
+            let n = vars as usize;
+            first::accepted_run(
+                entries,
+                &mut status[..n],
+                &mut log[..6 * (n + 1)],
+                budget,
+                chunk_limit,
+            )
+        }
+    }
+}

@@ -1,0 +1,31 @@
+// The rows of the log (document 01, "What comes back").
+ghost use mathlib.Core.Path.{_≡_};
+ghost use mathlib.Core.List.{[], _∷_};
+ghost use Prim.Native.Nat.{_+_, _-_, _*_, _≤_};
+ghost use lib.ListN.{length};
+ghost use lib.Seq.{sets};
+ghost use Rattle.rules.specs.Numbers.{outcomeNumber};
+
+// What a row says of a call: what it ended with, the chunk taken, what compare and flip dropped, and the tries spent by then.
+pub struct Call {
+    pub outcome: rules::Outcome,
+    pub chunk: u32,
+    pub by_compare: u32,
+    pub by_flip: u32,
+    pub spent: u32,
+}
+
+// Writes the row of a call behind those of the calls before it, which had spent so many tries.
+pub fn put_row(log: &mut [u32], calls: u32, tries: u32, call: Call)
+    requires { ⌜ (6 * (calls + 1) ≤ length (now log)) × (tries ≤ call .spent) × (calls ≤ 256) ⌝ }
+    ensures { λ _. ⌜ now (log .exit) ≡ sets (now (log .entry)) (6 * calls) ((calls + 1) ∷ outcomeNumber (call .outcome) ∷ call .chunk ∷ call .«by_compare» ∷ call .«by_flip» ∷ (call .spent - tries) ∷ []) ⌝ }
+{
+    let at = 6 * calls as usize;
+    let outcome = call.outcome;
+    log[at] = calls + 1;
+    log[at + 1] = rules::numbers::outcome_number(outcome);
+    log[at + 2] = call.chunk;
+    log[at + 3] = call.by_compare;
+    log[at + 4] = call.by_flip;
+    log[at + 5] = call.spent - tries;
+}

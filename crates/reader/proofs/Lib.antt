@@ -1,0 +1,8 @@
+-- Laws that belong to no one function.
+pub mod ScanLaws
+pub mod NumberLaws
+pub mod LineLaws
+pub mod HeaderLaws
+pub mod TokenLaws
+pub mod StepLaws
+pub mod StoreLaws

@@ -1,0 +1,112 @@
+-- `reader::header::sizes_of` meets its contract. By the tests on the way, in the order of the definition. Assumes nothing.
+use mathlib.Core.Path.{sym, _∙_}
+use borrow.Author.Tests.{not-true, not-false}
+use borrow.Author.Needs.{needs}
+use Rattle.reader.proofs.NumberLaws.{number-bad, number-good}
+use Rattle.reader.proofs.header.sizes_of.Statement.{statement}
+use Rattle.reader.proofs.header.sizes_of.Tie as tie
+
+is-p-requires : tie.Need-is-p-requires
+is-p-requires c κs = search needs
+
+returns : tie.Need-returns
+returns c = rw (sym (c .before .is-p .ensures) ∙ not-true _ (c .if1 .taken))
+
+is-cnf-requires : tie.Need-is-cnf-requires
+is-cnf-requires c κs = search needs
+
+returns-2 : tie.Need-returns-2
+returns-2 c =
+    let else1 = c .before .before in
+    let at-is-p = else1 .before in
+    rw
+    (sym (at-is-p .is-p .ensures) ∙ not-false _ (else1 .if1 .left), sym (c .before .is-cnf .ensures) ∙ not-true _ (c .if2 .taken))
+
+number-of-requires : tie.Need-number-of-requires
+number-of-requires c κs = search needs
+
+enum-known-v : tie.Need-enum-known-v
+enum-known-v c = search needs
+
+enum-told : tie.Need-enum-told
+enum-told c = search needs
+
+returns-3 : tie.Need-returns-3
+returns-3 c =
+    let at-number-of = c .before .before in
+    let else2 = at-number-of .before in
+    let at-is-cnf = else2 .before in
+    let else1 = at-is-cnf .before in
+    let at-is-p = else1 .before in
+    let start = at-is-p .before .before .before .before .before in
+    rw (
+      sym (at-is-p .is-p .ensures) ∙ not-false _ (else1 .if1 .left),
+      sym (at-is-cnf .is-cnf .ensures) ∙ not-false _ (else2 .if2 .left),
+      number-bad (start .args .vars .now) (sym (at-number-of .number-of .ensures) ∙ c .enum-told .given .1),
+    )
+
+number-of-requires-2 : tie.Need-number-of-requires-2
+number-of-requires-2 c κs = search needs
+
+enum-known-c : tie.Need-enum-known-c
+enum-known-c c = search needs
+
+enum-told-2 : tie.Need-enum-told-2
+enum-told-2 c = search needs
+
+returns-4 : tie.Need-returns-4
+returns-4 c =
+    let at-number-of2 = c .before .before in
+    let at-v = at-number-of2 .before .before in
+    let at-number-of = at-v .before .before in
+    let else2 = at-number-of .before in
+    let at-is-cnf = else2 .before in
+    let else1 = at-is-cnf .before in
+    let at-is-p = else1 .before in
+    let start = at-is-p .before .before .before .before .before in
+    let v = number-good (start .args .vars .now) (at-v .v .given .0 .0) (sym (at-number-of .number-of .ensures) ∙ at-v .v .given .1) in
+    rw (
+      sym (at-is-p .is-p .ensures) ∙ not-false _ (else1 .if1 .left),
+      sym (at-is-cnf .is-cnf .ensures) ∙ not-false _ (else2 .if2 .left),
+      v .0,
+      number-bad (start .args .clauses .now) (sym (at-number-of2 .number-of2 .ensures) ∙ c .enum-told2 .given .1),
+    )
+
+returns-5 : tie.Need-returns-5
+returns-5 c =
+    let at-number-of2 = c .before .before .before in
+    let at-v = at-number-of2 .before .before in
+    let at-number-of = at-v .before .before in
+    let else2 = at-number-of .before in
+    let at-is-cnf = else2 .before in
+    let else1 = at-is-cnf .before in
+    let at-is-p = else1 .before in
+    let start = at-is-p .before .before .before .before .before in
+    let v = number-good (start .args .vars .now) (at-v .v .given .0 .0) (sym (at-number-of .number-of .ensures) ∙ at-v .v .given .1) in
+    let n = number-good (start .args .clauses .now) (c .before .c .given .0 .0) (sym (at-number-of2 .number-of2 .ensures) ∙ c .before .c .given .1) in
+    rw (
+      sym (at-is-p .is-p .ensures) ∙ not-false _ (else1 .if1 .left),
+      sym (at-is-cnf .is-cnf .ensures) ∙ not-false _ (else2 .if2 .left),
+      v .0,
+      n .0,
+      v .1,
+      n .1,
+    )
+
+pub sizes-of-spec : {M : Type 1} → statement M
+sizes-of-spec =
+    tie.close
+    (tie.spec
+    is-p-requires
+    returns
+    is-cnf-requires
+    returns-2
+    number-of-requires
+    enum-known-v
+    enum-told
+    returns-3
+    number-of-requires-2
+    enum-known-c
+    enum-told-2
+    returns-4
+    returns-5)

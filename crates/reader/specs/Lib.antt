@@ -1,0 +1,5 @@
+pub mod Scan
+pub mod Words
+pub mod Lines
+pub mod Steps
+pub mod Stores

@@ -1,0 +1,43 @@
+// Tokens: document 01, "The text". An optional `-` and 1 to 9 digits; a minus before zeros alone is malformed.
+ghost use mathlib.Core.Path.{_≡_};
+ghost use Rattle.rules.specs.Text.{entryOf};
+ghost use Rattle.reader.specs.Words.{tokenOf, signedToken};
+use crate::number::Number;
+use crate::number::number_of;
+
+// A number with a minus or without. 0 closes a clause; any other number is a literal's variable.
+pub struct Entry {
+    pub minus: bool,
+    pub number: u32,
+}
+
+// What a word says if it is read as a token.
+pub enum Token {
+    Malformed,
+    Is(Entry),
+}
+
+fn signed(minus: bool, n: Number) -> Token
+    ensures { λ r. ⌜ r ≡ signedToken minus n ⌝ }
+{
+    let Number::Is(number) = n else {
+        return Token::Malformed;
+    };
+    if minus && number == 0 {
+        return Token::Malformed;
+    }
+    Token::Is(Entry { minus, number })
+}
+
+pub fn token_of(word: &[u8]) -> Token
+    ensures { λ r. ⌜ r ≡ tokenOf (entryOf (now (word .entry))) ⌝ }
+{
+    if word.len() == 0 {
+        return Token::Malformed;
+    }
+    if word[0] == b'-' {
+        signed(true, number_of(&word[1..]))
+    } else {
+        signed(false, number_of(word))
+    }
+}
