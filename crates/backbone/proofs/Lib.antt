@@ -12,3 +12,4 @@ pub mod LoopLaws
 pub mod FirstLaws
 pub mod ListingLaws
 pub mod RunLaws
+pub mod Promises

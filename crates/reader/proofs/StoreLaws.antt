@@ -7,7 +7,6 @@
 --   stores-of, stores-refused     a judgement that is another; a refusal before any entry
 --   late-lines, written-late      the text itself is never refused with 1 or 2, so the first 4,096 entries are written
 --   read-short, read-long, read-done          the three ways a reading ends; stores-count: its count is at most 4,096
---   reads-unique                  there is no second result and buffer
 --
 -- Assumes nothing.
 use mathlib.Core.Path.{_≡_, refl, sym, _∙_, ap, ap₂}
@@ -265,9 +264,3 @@ module _ (text : List ℕ) (before : List ℤ) where
               sym (written-late j before (late-lines text (linesOf text))) ∙
               ap (λ (k : Judged). written k before) (sym (judge-is h));
         }
-
--- a reading's promise settles its result and the buffer
-pub reads-unique :
-    {text : List ℕ} {before : List ℤ} {r q : Reading} {after behind : List ℤ} → Reads text before r after →
-    Reads text before q behind → (r ≡ q) × (after ≡ behind)
-reads-unique a b = (a .result-is ∙ sym (b .result-is), a .after-is ∙ sym (b .after-is))

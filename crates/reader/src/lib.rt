@@ -9,8 +9,6 @@ mod store;
 mod token;
 mod tokens;
 
-pub use answer::answer_number;
-pub use answer::answer_place;
 ghost use Prim.Native.Nat.{_≤_};
 ghost use lib.ListN.{length};
 ghost use Rattle.rules.specs.Numbers.{maxEntries};

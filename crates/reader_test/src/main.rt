@@ -11,8 +11,8 @@ fn field(n: u64) {
 fn write_line(name: &[u8], r: Reading) {
     let answer = r.answer;
     io::write_all(STDOUT_FILENO, name);
-    field(reader::answer_number(answer) as u64);
-    field(reader::answer_place(answer) as u64);
+    field(rules::numbers::read_number(answer) as u64);
+    field(rules::numbers::read_place(answer) as u64);
     field(r.vars as u64);
     field(r.clauses as u64);
     field(r.entries as u64);

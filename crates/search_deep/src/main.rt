@@ -2,17 +2,8 @@
 // with, as in the log (1 model, 2 none, 3 stopped), and the tries. tests/stack.sh runs it on a stack of 512 KB.
 use formula::starts::find_starts;
 use libc::STDOUT_FILENO;
-use rules::Outcome;
 use search::call::go_on;
 use search::meter::Meter;
-
-fn number_of(outcome: Outcome) -> u64 {
-    match outcome {
-        Outcome::Model => 1,
-        Outcome::NoModel => 2,
-        Outcome::Stopped => 3,
-    }
-}
 
 fn main() {
     let list = [0i32; 1];
@@ -27,7 +18,10 @@ fn main() {
     let end = go_on(none, &starts, none, 0, &mut values, meter);
     let outcome = end.outcome;
     io::write_all(STDOUT_FILENO, b"outcome ");
-    io::print_decimal(STDOUT_FILENO, number_of(outcome));
+    io::print_decimal(
+        STDOUT_FILENO,
+        rules::numbers::outcome_number(outcome) as u64,
+    );
     io::write_all(STDOUT_FILENO, b" tries ");
     let tries = end.meter.spent;
     io::print_decimal(STDOUT_FILENO, tries as u64);

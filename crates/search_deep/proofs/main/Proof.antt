@@ -47,8 +47,11 @@ slice-aggregate-write-all c = search needs
 write-all-requires : tie.Need-write-all-requires
 write-all-requires c κs = search needs
 
-number-of-requires : tie.Need-number-of-requires
-number-of-requires c κs = search needs
+outcome-number-requires : tie.Need-outcome-number-requires
+outcome-number-requires c κs = search needs
+
+cast-print-decimal : tie.Need-cast-print-decimal
+cast-print-decimal c = search needs
 
 print-decimal-requires : tie.Need-print-decimal-requires
 print-decimal-requires c κs = search needs
@@ -59,8 +62,8 @@ slice-aggregate-write-all-2 c = search needs
 write-all-requires-2 : tie.Need-write-all-requires-2
 write-all-requires-2 c κs = search needs
 
-cast-print-decimal : tie.Need-cast-print-decimal
-cast-print-decimal c = search needs
+cast-print-decimal-2 : tie.Need-cast-print-decimal-2
+cast-print-decimal-2 c = search needs
 
 print-decimal-requires-2 : tie.Need-print-decimal-requires-2
 print-decimal-requires-2 c κs = search needs
@@ -87,11 +90,12 @@ main-spec =
     go-on-requires
     slice-aggregate-write-all
     write-all-requires
-    number-of-requires
+    outcome-number-requires
+    cast-print-decimal
     print-decimal-requires
     slice-aggregate-write-all-2
     write-all-requires-2
-    cast-print-decimal
+    cast-print-decimal-2
     print-decimal-requires-2
     slice-aggregate-write-all-3
     write-all-requires-3

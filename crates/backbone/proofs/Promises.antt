@@ -1,0 +1,160 @@
+-- What a caller of `run` gets: everything here follows from its contract, `Runs`, alone, and speaks of what was returned and of what
+-- stands in the two buffers. The proofs are those of rules/proofs/Theorems.
+--
+--   answered, refused-exactly     what is accepted, and each refusal exactly when its rule says
+--   nothing-written   a refused run
+--   settled-forced, settled-free, no-model-exactly     the published definition
+--   forced-sound, free-witness    what a stopped run has marked holds too
+--   calls-most, tries-most, counted, logged     calls, tries, counts and the log
+--   rest-stays        what stands behind the table and the rows
+--   one-answer        no second result and buffers
+--
+-- Assumes nothing.
+use mathlib.Core.Path.{_≡_, refl, sym, _∙_, ap}
+use mathlib.Core.Logic.{_≢_, _↔_}
+use mathlib.Core.Bool.{Bool, true, false}
+use mathlib.Core.List.{List}
+use mathlib.Core.Option.{Option, none, some}
+use Prim.Native.Nat.{ℕ, _+_, _≤_, _<_}
+use lib.IntN.{ℤ}
+use lib.ListN.{length, take, drop, replicate}
+use Rattle.rules.specs.declared.RunAnswer.{RunAnswer}
+use Rattle.rules.specs.declared.Report.{Report}
+use Rattle.rules.specs.Lists.{count}
+use Rattle.rules.specs.Meaning.{Clause, LitUpTo, clauses}
+use Rattle.rules.specs.Models.{NoModel, Forced, Free, WitnessOf}
+use Rattle.rules.specs.Run.{Task, Row, Ended, statusAt, isForcedTo, run}
+use Rattle.rules.specs.Trace.{Ends, first-none, first-stopped, settled, next-stopped}
+use Rattle.rules.specs.Answer.{Given, logLength, refusalOf, taskOf, reportIf, reportOf, reportOfRun, statusAfter, logAfter, logOfRows, isFree, isForced, Runs}
+use Rattle.rules.specs.RunRefusals.{Accepted, RunRefuses, out-of-limits, buffer-short, list-long, not-ended, zero-over, variable-above}
+use Rattle.rules.specs.Log.{LogOf}
+use Rattle.rules.proofs.ListLaws.{never}
+use Rattle.rules.proofs.RunTrace.{run-ends}
+use Rattle.rules.proofs.Theorems as theorems
+
+-- the answers of a run that is not refused: 0, 20, 21
+abbrev pub isAnswered : RunAnswer → Bool
+isAnswered RunAnswer.Settled = true
+isAnswered RunAnswer.NoModel = true
+isAnswered RunAnswer.Stopped = true
+isAnswered RunAnswer.BufferShort = false
+isAnswered RunAnswer.OutOfLimits = false
+isAnswered (RunAnswer.BadList at) = false
+isAnswered (RunAnswer.VariableAbove at) = false
+
+ends-answered : {k : Task} {e : Ended} → Ends k e → isAnswered (e .answer) ≡ true
+ends-answered (first-none t e) = refl
+ends-answered (first-stopped t e) = refl
+ends-answered (settled r o) = refl
+ends-answered (next-stopped n t r o e) = refl
+
+rule-refuses : {g : Given} {a : RunAnswer} → RunRefuses g a → isAnswered a ≡ false
+rule-refuses (out-of-limits h) = refl
+rule-refuses (buffer-short i h) = refl
+rule-refuses (list-long l h) = refl
+rule-refuses (not-ended l h front k e z) = refl
+rule-refuses (zero-over l h i front back e z) = refl
+rule-refuses (variable-above l front k back e h z) = refl
+
+module _ {g : Given} {r : Report} {status log : List ℕ} (w : Runs g r status log) where
+  -- ---- what is refused, and what is accepted
+
+  -- a refused run returns zero counts and writes nothing
+  pub nothing-written : (a : RunAnswer) → RunRefuses g a → (r ≡ record { answer = a; calls = 0; tries = 0; forced = 0; free = 0 }) × (status ≡ g .status) × (log ≡ g .log)
+  nothing-written a h =
+      let (e, s, l) = theorems.run-refused-nothing g a h in (w .result-is ∙ e, w .status-is ∙ s, w .log-is ∙ l)
+
+  -- what an accepted run returns
+  returned : Accepted g → r ≡ reportOfRun (run (taskOf g))
+  unfolding reportOf
+  returned h = w .result-is ∙ ap (λ (o : Option RunAnswer). reportIf o (taskOf g)) (theorems.run-acceptance g .1 h)
+
+  accepted-answered : Accepted g → isAnswered (r .answer) ≡ true
+  accepted-answered h = ap (λ (q : Report). isAnswered (q .answer)) (returned h) ∙ ends-answered (run-ends (taskOf g) (h .listed .lent .in-limits .limit-some))
+
+  judged : (a : RunAnswer) → r .answer ≡ a → (isAnswered a ≡ true → Accepted g) × (isAnswered a ≡ false → RunRefuses g a)
+  judged a e = go (refusalOf g) refl
+    where
+      go : (o : Option RunAnswer) → refusalOf g ≡ o → (isAnswered a ≡ true → Accepted g) × (isAnswered a ≡ false → RunRefuses g a)
+      go none q =
+          let h = theorems.run-acceptance g .0 q in
+          (λ t. h, λ f. absurd (never (accepted-answered h) (ap isAnswered e ∙ f)))
+      go (some b) q =
+          let h = theorems.run-refusals g b .0 q in
+          let same : b ≡ a = sym (ap (λ (z : Report). z .answer) (nothing-written b h .0)) ∙ e in
+          (λ t. absurd (never t (ap isAnswered (sym same) ∙ rule-refuses h)), λ f. rw (← same) h)
+
+  -- 0, 20 and 21 are answered exactly if no rule refuses
+  pub answered : (isAnswered (r .answer) ≡ true) ↔ Accepted g
+  answered = (judged (r .answer) refl .0, accepted-answered)
+
+  -- each refusal number and place exactly when its rule says so
+  pub refused-exactly : (a : RunAnswer) → isAnswered a ≡ false → (r .answer ≡ a) ↔ RunRefuses g a
+  refused-exactly a f = (λ e. judged a e .1 f, λ h. ap (λ (q : Report). q .answer) (nothing-written a h .0))
+
+  -- ---- an accepted run
+
+  module _ (h : Accepted g) where
+    limit : 1 ≤ g .limit
+    limit = h .listed .lent .in-limits .limit-some
+
+    answer-is : r .answer ≡ run (taskOf g) .answer
+    answer-is = ap (λ (q : Report). q .answer) (returned h)
+
+    table-is : take (g .vars) status ≡ run (taskOf g) .progress .statuses
+    table-is = ap (take (g .vars)) (w .status-is) ∙ theorems.run-status g h .0
+
+    -- settled: a literal is marked forced exactly if a model exists and all models contain it
+    pub settled-forced : r .answer ≡ RunAnswer.Settled → (l : ℤ) → LitUpTo (g .vars) l → isForcedTo (take (g .vars) status) l ↔ Forced (g .vars) (clauses (g .entries)) l
+    settled-forced e = rw table-is (theorems.settled-forced (taskOf g) limit (sym answer-is ∙ e))
+
+    -- settled: a variable is marked free exactly if two models differ on it
+    pub settled-free : r .answer ≡ RunAnswer.Settled → (i : ℕ) → i < g .vars → (statusAt (take (g .vars) status) i ≡ 1) ↔ Free (g .vars) (clauses (g .entries)) i
+    settled-free e = rw table-is (theorems.settled-free (taskOf g) limit (sym answer-is ∙ e))
+
+    -- unless the budget stopped the run, "no model" is answered exactly if there is none
+    pub no-model-exactly : r .answer ≢ RunAnswer.Stopped → (r .answer ≡ RunAnswer.NoModel) ↔ NoModel (g .vars) (clauses (g .entries))
+    no-model-exactly = rw answer-is (theorems.no-model-exactly (taskOf g) limit)
+
+    -- after "no model" all variables are open, after one call
+    pub no-model-table : r .answer ≡ RunAnswer.NoModel → (take (g .vars) status ≡ replicate (g .vars) 0) × (r .calls ≡ 1)
+    no-model-table e =
+        let (s, l) = theorems.no-model-table (taskOf g) limit (sym answer-is ∙ e) in
+        (table-is ∙ s, ap (λ (q : Report). q .calls) (returned h) ∙ l)
+
+    -- however the run ended: a literal marked forced is in all models, and there is one
+    pub forced-sound : (l : ℤ) → LitUpTo (g .vars) l → isForcedTo (take (g .vars) status) l → Forced (g .vars) (clauses (g .entries)) l
+    forced-sound = rw table-is (theorems.forced-sound (taskOf g) limit)
+
+    -- however the run ended: a variable marked free has a model of that run, or one with this variable alone flipped that is still a
+    -- model, that differs on it from the run's first model
+    pub free-witness : (i : ℕ) → i < g .vars → statusAt (take (g .vars) status) i ≡ 1 → WitnessOf (g .vars) (clauses (g .entries)) (run (taskOf g) .progress .models) i
+    free-witness = rw table-is (theorems.free-witness (taskOf g) limit)
+
+    -- calls begun are at most V + 1
+    pub calls-most : r .calls ≤ g .vars + 1
+    calls-most = rw (returned h) (theorems.calls-bound (taskOf g) limit)
+
+    -- tries are within the budget, and all of it is spent where the run was stopped
+    pub tries-most : (r .tries ≤ g .budget) × (r .answer ≡ RunAnswer.Stopped → r .tries ≡ g .budget)
+    tries-most = rw (returned h) (theorems.tries-bound (taskOf g) limit)
+
+    -- the counts returned are those of the table
+    pub counted : (r .forced ≡ count isForced (take (g .vars) status)) × (r .free ≡ count isFree (take (g .vars) status))
+    counted =
+        (ap (λ (q : Report). q .forced) (returned h) ∙ ap (count isForced) (sym table-is), ap (λ (q : Report). q .free) (returned h) ∙ ap (count isFree) (sym table-is))
+
+    -- the log has a row for each call begun, and zeros behind; its rows are numbered from 1, each call after the first that finds a
+    -- model frees at least one variable, each that finds none forces at least one, and the columns add up to what is returned
+    pub logged : (rows : List Row) × (take (logLength (g .vars)) log ≡ logOfRows (g .vars) rows) × (length rows ≡ r .calls) × LogOf rows (r .free) (r .forced) (r .tries)
+    logged =
+        (run (taskOf g) .progress .rows, ap (take (logLength (g .vars))) (w .log-is) ∙ theorems.run-log-buffer g h .0, ap (λ (q : Report). q .calls) (sym (returned h)), rw (returned h) (theorems.log-adds-up (taskOf g) limit))
+
+    -- what stands behind the table and the rows stays
+    pub rest-stays : (drop (g .vars) status ≡ drop (g .vars) (g .status)) × (drop (logLength (g .vars)) log ≡ drop (logLength (g .vars)) (g .log))
+    rest-stays =
+        (ap (drop (g .vars)) (w .status-is) ∙ theorems.run-status g h .1, ap (drop (logLength (g .vars))) (w .log-is) ∙ theorems.run-log-buffer g h .1)
+
+  -- no second result and buffers meet the contract
+  pub one-answer : {r′ : Report} {status′ log′ : List ℕ} → Runs g r′ status′ log′ → (r ≡ r′) × (status ≡ status′) × (log ≡ log′)
+  one-answer v = theorems.runs-unique w v
