@@ -1,0 +1,52 @@
+-- `backbone_test::show_rows` ends and stays within its slice. The measure is what is left. Assumes nothing.
+use Prim.Native.Nat.{_≤_, _-_}
+use native.Mathlib.Omega.{arith}
+use borrow.Author.Needs.{needs}
+use lib.ListN.{length}
+use Rattle.backbone_test.proofs.show_rows.Statement.{statement}
+use Rattle.backbone_test.proofs.show_rows.Tie as tie
+
+abbrev Inv-loop : tie.InvT-loop
+Inv-loop log calls i₀ i = i ≤ length log
+
+abbrev μ-loop : tie.MeasureT-loop
+μ-loop log calls i₀ i = length log - i
+
+loop-holds : tie.Need-loop-holds Inv-loop μ-loop
+loop-holds c = search needs
+
+mul-show-number : tie.Need-mul-show-number Inv-loop μ-loop
+mul-show-number c = search needs
+
+shared-slice-read-show-number : tie.Need-shared-slice-read-show-number Inv-loop μ-loop
+shared-slice-read-show-number c = search needs
+
+show-number-requires : tie.Need-show-number-requires Inv-loop μ-loop
+show-number-requires c κs = search needs
+
+add-i : tie.Need-add-i Inv-loop μ-loop
+add-i c = search needs
+
+loop-less : tie.Need-loop-less Inv-loop μ-loop
+loop-less c = search needs
+
+loop-again : tie.Need-loop-again Inv-loop μ-loop
+loop-again c = search needs
+
+returns : tie.Need-returns Inv-loop μ-loop
+returns c = search needs
+
+pub show-rows-spec : {M : Type 1} → statement M
+show-rows-spec =
+    tie.close
+    (tie.spec
+    Inv-loop
+    μ-loop
+    loop-holds
+    mul-show-number
+    shared-slice-read-show-number
+    show-number-requires
+    add-i
+    loop-less
+    loop-again
+    returns)

@@ -1,0 +1,237 @@
+// The run on the small formulas of document 01, "Small formulas, whole", and on what it refuses ("What comes back"). A line a run: its
+// name, number and place, calls, tries, forced and free, the status bytes, the rows of the calls begun, and how many bytes and numbers
+// of the two buffers are still 7, which all of them were before. `crates/backbone_test/stdout` was written by hand from the page.
+use libc::STDOUT_FILENO;
+use rules::Report;
+use rules::numbers::run_number;
+use rules::numbers::run_place;
+
+fn word(text: &[u8]) {
+    io::write_all(STDOUT_FILENO, text);
+}
+
+fn field(n: u64) {
+    word(b" ");
+    io::print_decimal(STDOUT_FILENO, n);
+}
+
+fn show_status(i: usize, byte: u8, vars: u32) {
+    if i < vars as usize {
+        field(byte as u64);
+    }
+}
+
+// The status bytes of the variables.
+fn show_statuses(status: &[u8], vars: u32) {
+    let mut i = 0;
+    while i < status.len() {
+        show_status(i, status[i], vars);
+        i += 1;
+    }
+}
+
+// A stroke between two rows.
+fn stroke(i: usize) {
+    if 0 < i {
+        if i % 6 == 0 {
+            word(b" /");
+        }
+    }
+}
+
+fn show_number(i: usize, n: u32, calls: u32) {
+    if i / 6 < calls as usize {
+        stroke(i);
+        field(n as u64);
+    }
+}
+
+// The rows of the calls begun, six numbers each.
+fn show_rows(log: &[u32], calls: u32) {
+    let mut i = 0;
+    while i < log.len() {
+        show_number(i, log[i], calls);
+        i += 1;
+    }
+}
+
+// How many bytes are still 7.
+fn bytes_kept(status: &[u8]) -> u64 {
+    let mut n: u64 = 0;
+    let mut i = 0;
+    while i < status.len() {
+        if status[i] == 7 {
+            n += 1;
+        }
+        i += 1;
+    }
+    n
+}
+
+// How many numbers are still 7.
+fn numbers_kept(log: &[u32]) -> u64 {
+    let mut n: u64 = 0;
+    let mut i = 0;
+    while i < log.len() {
+        if log[i] == 7 {
+            n += 1;
+        }
+        i += 1;
+    }
+    n
+}
+
+fn show_report(name: &[u8], r: Report) {
+    let answer = r.answer;
+    word(name);
+    field(run_number(answer) as u64);
+    field(run_place(answer) as u64);
+    field(r.calls as u64);
+    field(r.tries as u64);
+    field(r.forced as u64);
+    field(r.free as u64);
+}
+
+fn show_buffers(vars: u32, calls: u32, status: &[u8], log: &[u32]) {
+    word(b" status");
+    show_statuses(status, vars);
+    word(b" log");
+    show_rows(log, calls);
+    word(b" kept");
+    field(bytes_kept(status));
+    field(numbers_kept(log));
+    word(b"\n");
+}
+
+fn show(
+    name: &[u8],
+    entries: &[i32],
+    vars: u32,
+    budget: u32,
+    limit: u32,
+    status: &mut [u8],
+    log: &mut [u32],
+) {
+    let r = backbone::run(entries, vars, budget, limit, status, log);
+    show_report(name, r);
+    show_buffers(vars, r.calls, status, log);
+}
+
+// A run with a byte and a number more than three variables have.
+fn show_within(name: &[u8], entries: &[i32], vars: u32, budget: u32, limit: u32) {
+    let mut status = [7u8; 4];
+    let mut log = [7u32; 25];
+    show(name, entries, vars, budget, limit, &mut status, &mut log);
+}
+
+// Budget 100 and chunk limit 2.
+fn show_plain(name: &[u8], entries: &[i32], vars: u32) {
+    show_within(name, entries, vars, 100, 2);
+}
+
+fn no_clause_cases() {
+    let none = [0i32; 0];
+    show_plain(b"v0", &none, 0);
+    show_plain(b"v0_empty_clause", &[0], 0);
+    show_plain(b"v1", &none, 1);
+    show_within(b"v1_budget_0", &none, 1, 0, 2);
+}
+
+fn one_variable_cases() {
+    show_plain(b"unit", &[1, 0], 1);
+    show_plain(b"unit_twice", &[1, 1, 0], 1);
+    show_plain(b"both_signs", &[1, -1, 0], 1);
+    show_plain(b"no_model", &[1, 0, -1, 0], 1);
+}
+
+fn two_variable_cases() {
+    show_plain(b"not_equal", &[1, 2, 0, -1, -2, 0], 2);
+    show_plain(b"one_forced", &[1, 2, 0, 1, -2, 0], 2);
+}
+
+fn three_variable_cases() {
+    show_plain(b"three_units", &[1, 0, 2, 0, 3, 0], 3);
+    show_plain(b"one_of_three", &[1, 2, 3, 0], 3);
+    show_within(b"one_of_three_budget_2", &[1, 2, 3, 0], 3, 2, 2);
+    show_within(b"three_units_limit_1", &[1, 0, 2, 0, 3, 0], 3, 100, 1);
+}
+
+// 10.
+fn limit_cases() {
+    let none = [0i32; 0];
+    show_within(b"limit_0", &none, 1, 100, 0);
+    show_within(b"limit_256", &none, 1, 100, 256);
+    show_within(b"limit_257", &none, 1, 100, 257);
+    show_plain(b"vars_257", &none, 257);
+}
+
+// 1.
+fn buffer_cases() {
+    let list = [1i32, 2, 3, 0];
+    let mut three = [7u8; 3];
+    let mut rows = [7u32; 24];
+    show(b"buffers_right", &list, 3, 100, 2, &mut three, &mut rows);
+    let mut two = [7u8; 2];
+    let mut more = [7u32; 25];
+    show(b"status_short", &list, 3, 100, 2, &mut two, &mut more);
+    let mut four = [7u8; 4];
+    let mut less = [7u32; 23];
+    show(b"log_short", &list, 3, 100, 2, &mut four, &mut less);
+}
+
+// 11.
+fn list_cases() {
+    show_plain(b"not_ended", &[1], 1);
+    show_plain(b"not_ended_later", &[1, 0, 1], 1);
+    let zeros = [0i32; 1025];
+    show_plain(b"clauses_1024", &zeros[..1024], 0);
+    show_plain(b"clauses_1025", &zeros, 0);
+}
+
+fn long_list_cases() {
+    let ones = [1i32; 4097];
+    show_plain(b"entries_4096_not_ended", &ones[..4096], 1);
+    show_plain(b"entries_4097", &ones, 1);
+    let mut ended = [1i32; 4096];
+    ended[4095] = 0;
+    show_plain(b"entries_4096", &ended, 1);
+}
+
+// 12.
+fn above_cases() {
+    show_plain(b"above", &[2, 0], 1);
+    show_plain(b"above_minus", &[1, -2, 0], 1);
+    show_plain(b"above_no_variable", &[1, 0], 0);
+    show_plain(b"least", &[-2147483648, 0], 1);
+    show_plain(b"least_later", &[1, 0, -2147483648, 0], 1);
+}
+
+// The order 10, 1, 11, 12, and within 11: too many entries, not ended, too many zeros.
+fn order_cases() {
+    let mut two = [7u8; 2];
+    let mut log = [7u32; 25];
+    show(b"10_before_1", &[2], 3, 100, 0, &mut two, &mut log);
+    show(b"1_before_11", &[4], 3, 100, 2, &mut two, &mut log);
+    show_plain(b"11_before_12", &[2], 1);
+    let mut zeros = [0i32; 1026];
+    zeros[0] = 2;
+    show_plain(b"zeros_before_12", &zeros, 1);
+    zeros[1025] = 1;
+    zeros[0] = 0;
+    show_plain(b"not_ended_before_zeros", &zeros, 1);
+    let many = [2i32; 4097];
+    show_plain(b"entries_before_12", &many, 1);
+}
+
+fn main() {
+    no_clause_cases();
+    one_variable_cases();
+    two_variable_cases();
+    three_variable_cases();
+    limit_cases();
+    buffer_cases();
+    list_cases();
+    long_list_cases();
+    above_cases();
+    order_cases();
+}
