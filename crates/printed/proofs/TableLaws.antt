@@ -1,0 +1,221 @@
+-- The laws of the table: by the number of the answer it is the lines that are put, and what a run or a reading leaves is what it is of.
+--
+--   table-room        room for the table is room for its answer line
+--   table-first, table-lines      the table after 20, and after 0 and 21
+--   run-ready, run-table          what a run with buffers of just the size leaves, and its table
+--   read-list, read-line          what a reading leaves: an entry list, or the line of its refusal
+--   prints-short, prints-table    the contract, in a short buffer and in others
+--   whole-room        a buffer of 4,096 bytes has room for every table
+--   prints-le         how many bytes are put at most
+--
+-- Assumes nothing.
+use mathlib.Core.Path.{_≡_, refl, sym, _∙_, ap}
+use mathlib.Core.Logic.{_≢_, _⊎_, inl, inr}
+use mathlib.Core.Bool.{Bool, true, false}
+use mathlib.Core.List.{List, [], _∷_, _++_, append-assoc}
+use Prim.Native.Nat.{ℕ, zero, suc, _+_, _-_, _≤_, _<_}
+use native.Mathlib.Omega.{arith}
+use lib.IntN.{ℤ, pos}
+use lib.Dec.{eqb, leb}
+use lib.ListN.{length, take, drop, replicate, length-append, length-replicate, drop-of-length-le}
+use lib.Seq.{take-append-seam}
+use borrow.Author.Tests.{leb-true, eqb-true, le-leb, lt-leb}
+use Rattle.rules.specs.declared.ReadAnswer.{ReadAnswer}
+use Rattle.rules.specs.declared.Reading.{Reading}
+use Rattle.rules.specs.declared.RunAnswer.{RunAnswer}
+use Rattle.rules.specs.declared.Report.{Report}
+use Rattle.rules.specs.Lists.{count, countIf}
+use Rattle.rules.specs.Numbers.{maxEntries, readNumber, readPlace, runNumber}
+use Rattle.rules.specs.Text.{Sizes}
+use Rattle.rules.specs.Reading.{Judged, accepted, refused, judge, returned, readingOf, filled, written, entriesAfter, Reads}
+use Rattle.rules.specs.Run.{run}
+use Rattle.rules.specs.Answer.{Given, logLength, taskOf, isFree, isForced, refusalOf, reportOfRun, reportOf, statusAfter, Runs}
+use Rattle.rules.specs.Refusals.{Refuses, buffer-short, text-long, no-header, bad-header, header-large, bad-token, token-after-last, variable-above, entry-over, ends-early}
+use Rattle.rules.specs.RunRefusals.{Accepted}
+use Rattle.rules.specs.Printed.{refusedLine, answerLine, statusLines, tableBy, tableOfRun, tableGiven, tableOfJudged, tableOf, maxTable, countIfRoom, bytesIfRoom, Prints}
+use Rattle.rules.proofs.RunTheorems.{run-answer, run-statuses}
+use Rattle.rules.proofs.RefusedRuns.{run-accepted}
+use Rattle.rules.proofs.RefusalLaws.{refusal-sound}
+use Rattle.rules.proofs.PrintedLaws.{table-runs}
+use Rattle.rules.proofs.TableLaws.{length-tableOf}
+use Rattle.backbone.specs.Refuse.{given}
+use Rattle.printed.specs.Put.{Room, Put}
+use Rattle.printed.specs.Table.{sizes, listGiven, tableOfList, ListReady, Sized, Ended, TableReady}
+use Rattle.printed.proofs.PutLaws.{putAt-front, room-first, room-same, put-same}
+
+-- ---- by the number of the answer
+
+pub table-first : (a : RunAnswer) (vars : ℕ) (r : Report) (ss : List ℕ) → Ended a → runNumber a ≡ 20 → tableBy a vars r ss ≡ answerLine vars r
+table-first a vars r ss (inl e) h = absurd (omega (arith, ap runNumber e, h))
+table-first a vars r ss (inr (inl e)) h = ap (λ (b : RunAnswer). tableBy b vars r ss) e
+table-first a vars r ss (inr (inr e)) h = absurd (omega (arith, ap runNumber e, h))
+
+pub table-lines : (a : RunAnswer) (vars : ℕ) (r : Report) (ss : List ℕ) → Ended a → runNumber a ≢ 20 → tableBy a vars r ss ≡ answerLine vars r ++ statusLines 1 ss
+table-lines a vars r ss (inl e) h = ap (λ (b : RunAnswer). tableBy b vars r ss) e
+table-lines a vars r ss (inr (inl e)) h = absurd (h (ap runNumber e))
+table-lines a vars r ss (inr (inr e)) h = ap (λ (b : RunAnswer). tableBy b vars r ss) e
+
+pub table-room : {vars : ℕ} {r : Report} {ss out : List ℕ} → TableReady vars r ss out → Room 0 (answerLine vars r) out
+table-room {vars} {r} {ss} {out} w = go (w .ended)
+  where
+    go : Ended (r .answer) → Room 0 (answerLine vars r) out
+    go (inl e) =
+        room-first (answerLine vars r) (statusLines 1 ss) (room-same (ap (λ (b : RunAnswer). tableBy b vars r ss) e) (w .room))
+    go (inr (inl e)) = room-same (ap (λ (b : RunAnswer). tableBy b vars r ss) e) (w .room)
+    go (inr (inr e)) =
+        room-first (answerLine vars r) (statusLines 1 ss) (room-same (ap (λ (b : RunAnswer). tableBy b vars r ss) e) (w .room))
+
+-- ---- the run
+
+-- a variable is forced, or free, or neither
+count-both : (ss : List ℕ) → count isForced ss + count isFree ss ≤ length ss
+count-both [] = omega arith
+count-both (s ∷ ss) = go (leb 2 s) (eqb s 1) refl refl (count-both ss)
+  where
+    go : (b c : Bool) → leb 2 s ≡ b → eqb s 1 ≡ c → count isForced ss + count isFree ss ≤ length ss → countIf b (count isForced ss) + countIf c (count isFree ss) ≤ suc (length ss)
+    go true true e f ih = absurd (omega (arith, leb-true 2 s e, eqb-true s 1 f))
+    go true false e f ih = omega (arith, ih)
+    go false true e f ih = omega (arith, ih)
+    go false false e f ih = omega (arith, ih)
+
+-- what an accepted run returns, and what it leaves in a status buffer of just the size
+run-report : (g : Given) → Accepted g → reportOf g ≡ reportOfRun (run (taskOf g))
+unfolding reportOf
+run-report g w = rw (run-accepted g .1 w)
+
+run-status : (g : Given) → Accepted g → length (g .status) ≡ g .vars → statusAfter g ≡ run (taskOf g) .progress .statuses ++ []
+unfolding statusAfter
+run-status g w e =
+    rw (run-accepted g .1 w)
+    (ap (λ (xs : List ℕ). run (taskOf g) .progress .statuses ++ xs) (drop-of-length-le (g .status) {i = g .vars} (omega (arith, e))))
+
+module _ {vars : ℕ} {es : List ℤ} {status log : List ℕ} (w : Accepted (listGiven vars es)) (z : Sized vars status log) where
+  -- the run with these buffers
+  abbrev lent : Given
+  lent = given es vars 1000000 16 status log
+
+  lent-accepted : Accepted lent
+  lent-accepted =
+      let l = w .listed in
+      record {
+        listed = record {
+          lent = record {
+            in-limits = record { vars-fit = l .lent .in-limits .vars-fit; limit-some = omega arith; limit-fits = omega arith };
+            status-fits = omega (arith, z .status-len);
+            log-fits = omega (arith, z .log-len);
+          };
+          entries-fit = l .entries-fit;
+          ended = l .ended;
+          clauses-fit = l .clauses-fit;
+        };
+        up-to = w .up-to;
+      }
+
+  same-report : reportOf lent ≡ reportOf (listGiven vars es)
+  same-report = run-report lent lent-accepted ∙ sym (run-report (listGiven vars es) w)
+
+  same-status : statusAfter lent ≡ statusAfter (listGiven vars es)
+  same-status =
+      run-status lent lent-accepted (z .status-len) ∙
+      sym (run-status (listGiven vars es) w (length-replicate {A = ℕ} vars 0))
+
+  module _ {r : Report} {status′ log′ : List ℕ} (d : Runs lent r status′ log′) where
+    pub run-table : tableOfRun vars r status′ ≡ tableOfList vars es
+    run-table =
+        ap (λ (q : Report). tableOfRun vars q status′) (d .result-is ∙ same-report) ∙
+        ap (tableOfRun vars (reportOf (listGiven vars es))) (d .status-is ∙ same-status)
+
+    report-is : r ≡ reportOfRun (run (taskOf (listGiven vars es)))
+    report-is = d .result-is ∙ same-report ∙ run-report (listGiven vars es) w
+
+    pub run-ready : {out : List ℕ} → Room 0 (tableOfList vars es) out → TableReady vars r status′ out
+    run-ready {out} m =
+        let k = taskOf (listGiven vars es) in
+        let some : 1 ≤ 16 = omega arith in
+        record {
+          ended = rw report-is (run-answer k some);
+          counted = rw report-is (omega (arith, count-both (run k .progress .statuses), run-statuses k some .0));
+          room = room-same (sym run-table) m;
+        }
+
+-- ---- the reading
+
+-- an accepted reading: the entries are the front of the buffer
+pub record ReadList (text : List ℕ) (r : Reading) (after : List ℤ) : Type 0 where
+  pub counted : r .entries ≤ length after
+  pub runs : Accepted (listGiven (r .vars) (take (r .entries) after))
+  pub table-is : tableOf text ≡ tableOfList (r .vars) (take (r .entries) after)
+
+never-zero : {room : ℕ} {text : List ℕ} {a : ReadAnswer} → Refuses room text a → readNumber a ≡ 0 → ⊥
+never-zero (buffer-short h) e = omega (arith, e)
+never-zero (text-long h k) e = omega (arith, e)
+never-zero (no-header b h) e = omega (arith, e)
+never-zero (bad-header line b f h) e = omega (arith, e)
+never-zero (header-large line v c b f h k) e = omega (arith, e)
+never-zero (bad-token s es t w h) e = omega (arith, e)
+never-zero (token-after-last s es t l w h k) e = omega (arith, e)
+never-zero (variable-above s es t l w h k u) e = omega (arith, e)
+never-zero (entry-over s es t l w h k u m) e = omega (arith, e)
+never-zero (ends-early line s es b h f k) e = omega (arith, e)
+
+module _ {text : List ℕ} {before : List ℤ} {r : Reading} {after : List ℤ} (d : Reads text before r after) (z : length before ≡ maxEntries) where
+  returned-is : r ≡ returned (judge maxEntries text)
+  unfolding readingOf
+  returned-is = d .result-is ∙ ap (λ (n : ℕ). returned (judge n text)) z
+
+  written-is : after ≡ written (judge maxEntries text) before
+  unfolding entriesAfter
+  written-is = d .after-is ∙ ap (λ (n : ℕ). written (judge n text) before) z
+
+  pub read-line : readNumber (r .answer) ≢ 0 → tableOf text ≡ refusedLine (readNumber (r .answer)) (readPlace (r .answer))
+  unfolding tableOf
+  read-line h = go (judge maxEntries text) returned-is
+    where
+      go : (j : Judged) → r ≡ returned j → tableOfJudged j ≡ refusedLine (readNumber (r .answer)) (readPlace (r .answer))
+      go (accepted s es) e = absurd (h (ap (λ (q : Reading). readNumber (q .answer)) e))
+      go (refused a) e = sym (ap (λ (q : Reading). refusedLine (readNumber (q .answer)) (readPlace (q .answer))) e)
+
+  pub read-list : readNumber (r .answer) ≡ 0 → ReadList text r after
+  unfolding tableOf
+  read-list h = go (judge maxEntries text) refl returned-is written-is
+    where
+      go : (j : Judged) → judge maxEntries text ≡ j → r ≡ returned j → after ≡ written j before → ReadList text r after
+      go (refused a) q e f = absurd (never-zero (refusal-sound maxEntries text q) (sym (ap (λ (p : Reading). readNumber (p .answer)) e) ∙ h))
+      go (accepted s es) q e f =
+          let front : take (r .entries) after ≡ es = ap (λ (p : Reading). take (p .entries) after) e ∙ ap (take (length es)) (f ∙ append-assoc es (replicate (maxEntries - length es) (pos 0)) (drop maxEntries before)) ∙ take-append-seam es (replicate (maxEntries - length es) (pos 0) ++ drop maxEntries before) in
+          let same : listGiven (r .vars) (take (r .entries) after) ≡ tableGiven s es = ap (λ (p : Reading). listGiven (p .vars) (take (r .entries) after)) e ∙ ap (λ (xs : List ℤ). tableGiven s xs) front in
+          record {
+            counted = rw (ap (λ (p : Reading). p .entries) e, f) (omega (arith, length-append (es ++ replicate (maxEntries - length es) (pos 0)) (drop maxEntries before), length-append es (replicate (maxEntries - length es) (pos 0))));
+            runs = rw same (table-runs maxEntries text q);
+            table-is = ap tableOfJudged q ∙ sym (ap (λ (p : Reading). tableOfList (p .vars) (take (r .entries) after)) e ∙ ap (λ (xs : List ℤ). tableOfList (s .vars) xs) front);
+          }
+
+-- ---- the contract
+
+pub prints-short : (text before : List ℕ) → length before < maxTable → Prints text before 0 before
+prints-short text before h =
+    let e = lt-leb maxTable (length before) h in
+    record {
+      count-is = sym (ap (λ (b : Bool). countIfRoom b (tableOf text)) e);
+      after-is = sym (ap (λ (b : Bool). bytesIfRoom b (tableOf text) before) e);
+    }
+
+pub whole-room : (text out : List ℕ) → maxTable ≤ length out → Room 0 (tableOf text) out
+whole-room text out h = record { fits = omega (arith, length-tableOf text) }
+
+pub prints-table : {text before : List ℕ} {n : ℕ} {after : List ℕ} → maxTable ≤ length before → Put 0 (tableOf text) before n after → Prints text before n after
+prints-table {text} {before} {n} {after} h p =
+    let e = le-leb maxTable (length before) h in
+    let fits : length (tableOf text) ≤ length before = omega (arith, length-tableOf text) in
+    let whole : n ≡ length (tableOf text) = omega (arith, p .next-is) in
+    record {
+      count-is = whole ∙ sym (ap (λ (b : Bool). countIfRoom b (tableOf text)) e);
+      after-is = p .after-is ∙ putAt-front before (tableOf text) fits ∙ sym (ap (λ (b : Bool). bytesIfRoom b (tableOf text) before) e);
+    }
+
+pub prints-le : {text before : List ℕ} {n : ℕ} {after : List ℕ} → Prints text before n after → n ≤ maxTable
+prints-le {text} {before} {n} p = go (leb maxTable (length before)) (p .count-is)
+  where
+    go : (b : Bool) → n ≡ countIfRoom b (tableOf text) → n ≤ maxTable
+    go true e = omega (arith, e, length-tableOf text)
+    go false e = omega (arith, e)

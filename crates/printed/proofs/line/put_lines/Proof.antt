@@ -1,0 +1,62 @@
+-- `line::put_lines` meets its contract. The invariant of its loop: the first i lines are put, and with the others behind them all
+-- are. The measure is what is left of the statuses. Assumes nothing.
+use Prim.Native.Nat.{_-_}
+use borrow.Author.Needs.{needs}
+use lib.ListN.{length}
+use Rattle.printed.proofs.LineLaws.{Lining, lining-start, lining-room, lining-step, lining-done}
+use Rattle.printed.proofs.line.put_lines.Statement.{statement}
+use Rattle.printed.proofs.line.put_lines.Tie as tie
+
+abbrev Inv-loop : tie.InvT-loop
+Inv-loop out₀ at status next₀ i₀ out next i = Lining status at out₀ i next out
+
+abbrev μ-loop : tie.MeasureT-loop
+μ-loop out₀ at status next₀ i₀ out next i = length status - i
+
+loop-holds : tie.Need-loop-holds Inv-loop μ-loop
+loop-holds c = lining-start (c .before .before .pre)
+
+add-put-variable : tie.Need-add-put-variable Inv-loop μ-loop
+add-put-variable c = search needs
+
+shared-slice-read-put-variable : tie.Need-shared-slice-read-put-variable Inv-loop μ-loop
+shared-slice-read-put-variable c = search needs
+
+put-variable-requires : tie.Need-put-variable-requires Inv-loop μ-loop
+put-variable-requires c κs =
+    let turn = c .before .before in
+    lining-room 0 (turn .before .loop .inv) (turn .loop-test .taken)
+
+add-i : tie.Need-add-i Inv-loop μ-loop
+add-i c = search needs
+
+loop-less : tie.Need-loop-less Inv-loop μ-loop
+loop-less c = search needs
+
+loop-again : tie.Need-loop-again Inv-loop μ-loop
+loop-again c =
+    let put = c .before .before in
+    let turn = put .before .before .before in
+    lining-step 0 (turn .before .loop .inv) (turn .loop-test .taken) (put .put-variable .ensures)
+
+same-length : tie.Need-same-length Inv-loop μ-loop
+same-length c = c .before .loop .inv .len
+
+returns : tie.Need-returns Inv-loop μ-loop
+returns c = lining-done (c .before .loop .inv) (c .loop-test .left)
+
+pub put-lines-spec : {M : Type 1} → statement M
+put-lines-spec =
+    tie.close
+    (tie.spec
+    Inv-loop
+    μ-loop
+    loop-holds
+    add-put-variable
+    shared-slice-read-put-variable
+    put-variable-requires
+    add-i
+    loop-less
+    loop-again
+    same-length
+    returns)

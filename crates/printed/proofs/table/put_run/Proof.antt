@@ -1,0 +1,36 @@
+-- `table::put_run` meets its contract: the table is that of what the run left. Assumes nothing.
+use borrow.Author.Needs.{needs}
+use Rattle.printed.proofs.PutLaws.{put-same}
+use Rattle.printed.proofs.TableLaws.{run-ready, run-table}
+use Rattle.printed.proofs.table.put_run.Statement.{statement}
+use Rattle.printed.proofs.table.put_run.Tie as tie
+
+run-requires : tie.Need-run-requires
+run-requires c κs = search needs
+
+put-table-requires : tie.Need-put-table-requires
+put-table-requires c κs =
+    let ran = c .before .before .before .before .before .before in
+    let s = ran .before .before .before .before .before .before in
+    run-ready (s .pre .0 .runs) (s .pre .1) (ran .run .ensures) (s .pre .0 .room)
+
+same-length : tie.Need-same-length
+same-length c = search needs
+
+same-length-2 : tie.Need-same-length-2
+same-length-2 c = search needs
+
+same-length-3 : tie.Need-same-length-3
+same-length-3 c = search needs
+
+returns : tie.Need-returns
+returns c =
+    let put = c .before .before in
+    let ran = put .before .before .before .before .before .before .before in
+    let s = ran .before .before .before .before .before .before in
+    put-same (run-table (s .pre .0 .runs) (s .pre .1) (ran .run .ensures)) (put .put-table .ensures)
+
+pub put-run-spec : {M : Type 1} → statement M
+put-run-spec =
+    tie.close
+    (tie.spec run-requires put-table-requires same-length same-length-2 same-length-3 returns)

@@ -1,0 +1,23 @@
+-- The lines of document 01, "The table program", as they are put: field behind field. Assumes nothing.
+use mathlib.Core.List.{List, [], _∷_, _++_}
+use Prim.Native.Nat.{ℕ}
+use Rattle.rules.specs.Plain.{decimal}
+use Rattle.rules.specs.Printed.{answerWord, callsWord, triesWord, forcedWord, freeWord, openWord, refusedWord, placeWord, statusWords}
+
+-- the first three numbers of the answer line
+abbrev pub countFields : ℕ → ℕ → ℕ → List ℕ
+countFields number calls tries =
+    (answerWord ++ decimal number) ++ ((callsWord ++ decimal calls) ++ (triesWord ++ decimal tries))
+
+-- the last three, and LF
+abbrev pub endFields : ℕ → ℕ → ℕ → List ℕ
+endFields forced free opens =
+    (forcedWord ++ 32 ∷ decimal forced) ++ ((freeWord ++ 32 ∷ decimal free) ++ ((openWord ++ 32 ∷ decimal opens) ++ 10 ∷ []))
+
+-- the line of a refusal
+abbrev pub refusedFields : ℕ → ℕ → List ℕ
+refusedFields number place = (refusedWord ++ decimal number) ++ ((placeWord ++ decimal place) ++ 10 ∷ [])
+
+-- the line of one variable
+abbrev pub statusLine : ℕ → ℕ → List ℕ
+statusLine v s = decimal v ++ (statusWords s ++ 10 ∷ [])

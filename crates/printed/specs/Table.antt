@@ -1,0 +1,46 @@
+-- The table of document 01, "The table program", of an entry list: what a table is put from. Assumes nothing.
+use mathlib.Core.Path.{_≡_}
+use mathlib.Core.Logic.{_⊎_}
+use mathlib.Core.List.{List}
+use Prim.Native.Nat.{ℕ, _+_, _≤_}
+use lib.IntN.{ℤ}
+use lib.ListN.{length}
+use Rattle.rules.specs.declared.RunAnswer.{RunAnswer}
+use Rattle.rules.specs.declared.Report.{Report}
+use Rattle.rules.specs.Text.{Sizes}
+use Rattle.rules.specs.Reading.{accepted}
+use Rattle.rules.specs.Answer.{Given, logLength}
+use Rattle.rules.specs.RunRefusals.{Accepted}
+use Rattle.rules.specs.Printed.{tableOfRun, tableGiven, tableOfJudged}
+use Rattle.printed.specs.Put.{Room}
+
+-- the number of clauses is not looked at
+abbrev pub sizes : ℕ → Sizes
+sizes vars = record { vars = vars; clauses = 0 }
+
+abbrev pub listGiven : ℕ → List ℤ → Given
+listGiven vars es = tableGiven (sizes vars) es
+
+-- the table of an accepted text with this entry list
+abbrev pub tableOfList : ℕ → List ℤ → List ℕ
+tableOfList vars es = tableOfJudged (accepted (sizes vars) es)
+
+-- a list whose run no rule refuses, and room for its table
+pub record ListReady (vars : ℕ) (es : List ℤ) (out : List ℕ) : Type 0 where
+  pub runs : Accepted (listGiven vars es)
+  pub room : Room 0 (tableOfList vars es) out
+
+-- buffers of just the size
+pub record Sized (vars : ℕ) (status log : List ℕ) : Type 0 where
+  pub status-len : length status ≡ vars
+  pub log-len : length log ≡ logLength vars
+
+-- the run was not refused
+abbrev pub Ended : RunAnswer → Type 0
+Ended a = (a ≡ RunAnswer.Settled) ⊎ ((a ≡ RunAnswer.NoModel) ⊎ (a ≡ RunAnswer.Stopped))
+
+-- a run that is over, its statuses, and room for its table
+pub record TableReady (vars : ℕ) (r : Report) (ss out : List ℕ) : Type 0 where
+  pub ended : Ended (r .answer)
+  pub counted : r .forced + r .free ≤ vars
+  pub room : Room 0 (tableOfRun vars r ss) out

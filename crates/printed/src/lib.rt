@@ -1,0 +1,18 @@
+// The table of a text (document 01, "The table program"), put into a buffer that is lent.
+ghost use Rattle.rules.specs.Printed.{Prints};
+
+mod line;
+mod put;
+mod table;
+
+// Puts the table of a text at the start of a buffer and answers how many bytes it has. No table is longer than 4,096 bytes; in a
+// shorter buffer nothing is written, and the answer is 0.
+pub fn print(text: &[u8], out: &mut [u8]) -> usize
+    ensures { λ r. ⌜ Prints (now (text .entry)) (now (out .entry)) r (now (out .exit)) ⌝ }
+{
+    if out.len() < 4096 {
+        return 0;
+    }
+    let mut entries = [0i32; 4096];
+    table::put_text(out, text, &mut entries)
+}

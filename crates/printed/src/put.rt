@@ -1,0 +1,48 @@
+// Bytes, words and numbers put into a buffer at a cursor: each function answers the cursor behind what it put.
+ghost use Prim.Native.Nat.{_+_};
+ghost use mathlib.Core.List.{List, [], _∷_, _++_};
+ghost use Rattle.rules.specs.Plain.{decimal};
+ghost use Rattle.printed.specs.Put.{Put, Room};
+
+// One byte.
+pub fn put_byte(out: &mut [u8], at: usize, byte: u8) -> usize
+    requires { ⌜ Room at (byte ∷ []) (now out) ⌝ }
+    ensures { λ r. ⌜ Put at (byte ∷ []) (now (out .entry)) r (now (out .exit)) ⌝ }
+{
+    out[at] = byte;
+    at + 1
+}
+
+// The bytes of a word.
+pub fn put_word(out: &mut [u8], at: usize, word: &[u8]) -> usize
+    requires { ⌜ Room at (now word) (now out) ⌝ }
+    ensures { λ r. ⌜ Put at (now (word .entry)) (now (out .entry)) r (now (out .exit)) ⌝ }
+{
+    let mut i: usize = 0;
+    while i < word.len() {
+        out[at + i] = word[i];
+        i += 1;
+    }
+    at + i
+}
+
+// The digits of a number, with no zero in front: those of a tenth of it, then the last one.
+pub fn put_decimal(out: &mut [u8], at: usize, n: usize) -> usize
+    requires { ⌜ Room at (decimal n) (now out) ⌝ }
+    ensures { λ r. ⌜ Put at (decimal n) (now (out .entry)) r (now (out .exit)) ⌝ }
+{
+    if n < 10 {
+        return put_byte(out, at, 48 + n as u8);
+    }
+    let next = put_decimal(out, at, n / 10);
+    put_byte(out, next, 48 + (n % 10) as u8)
+}
+
+// A word and the number behind it.
+pub fn put_field(out: &mut [u8], at: usize, word: &[u8], n: usize) -> usize
+    requires { ⌜ Room at (now word ++ decimal n) (now out) ⌝ }
+    ensures { λ r. ⌜ Put at (now (word .entry) ++ decimal n) (now (out .entry)) r (now (out .exit)) ⌝ }
+{
+    let next = put_word(out, at, word);
+    put_decimal(out, next, n)
+}

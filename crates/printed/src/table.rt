@@ -1,0 +1,70 @@
+// The table of a text (document 01, "The table program"): read, run, put.
+ghost use mathlib.Core.Path.{_≡_};
+ghost use lib.ListN.{length};
+ghost use Rattle.rules.specs.Numbers.{maxEntries};
+ghost use Rattle.rules.specs.Printed.{tableOf, tableOfRun};
+ghost use Rattle.printed.specs.Put.{Put, Room};
+ghost use Rattle.printed.specs.Table.{tableOfList, ListReady, Sized, TableReady};
+use crate::line::put_answer;
+use crate::line::put_lines;
+use crate::line::put_refused;
+use rules::numbers::read_number;
+use rules::numbers::read_place;
+use rules::numbers::run_number;
+
+// The answer line, and a line for each variable. After 20 there is no model and nothing to say of a variable.
+fn put_table(out: &mut [u8], vars: u32, report: rules::Report, status: &[u8]) -> usize
+    requires { ⌜ TableReady vars report (now status) (now out) ⌝ }
+    ensures { λ r. ⌜ Put 0 (tableOfRun vars report (now (status .entry))) (now (out .entry)) r (now (out .exit)) ⌝ }
+{
+    let answer = report.answer;
+    let number = run_number(answer);
+    let next = put_answer(out, 0, vars, report);
+    if number == 20 {
+        return next;
+    }
+    put_lines(out, next, status)
+}
+
+// The run of an entry list with buffers of just the size, budget 1,000,000 and chunk limit 16, and its table.
+fn put_run(out: &mut [u8], entries: &[i32], vars: u32, status: &mut [u8], log: &mut [u32]) -> usize
+    requires { ⌜ ListReady vars (now entries) (now out) × Sized vars (now status) (now log) ⌝ }
+    ensures { λ r. ⌜ Put 0 (tableOfList vars (now (entries .entry))) (now (out .entry)) r (now (out .exit)) ⌝ }
+{
+    let report = backbone::run(entries, vars, 1000000, 16, status, log);
+    put_table(out, vars, report, status)
+}
+
+// The table of an entry list: the buffers are made here, for up to 256 variables.
+fn put_list(out: &mut [u8], entries: &[i32], vars: u32) -> usize
+    requires { ⌜ ListReady vars (now entries) (now out) ⌝ }
+    ensures { λ r. ⌜ Put 0 (tableOfList vars (now (entries .entry))) (now (out .entry)) r (now (out .exit)) ⌝ }
+{
+    let n = vars as usize;
+    let mut status = [0u8; 256];
+    let mut log = [0u32; 1542];
+    put_run(
+        out,
+        entries,
+        vars,
+        &mut status[..n],
+        &mut log[..6 * (n + 1)],
+    )
+}
+
+// The table of a text: the line of its refusal, or the table of its entries.
+pub fn put_text(out: &mut [u8], text: &[u8], entries: &mut [i32]) -> usize
+    requires { ⌜ Room 0 (tableOf (now text)) (now out) × (length (now entries) ≡ maxEntries) ⌝ }
+    ensures { λ r. ⌜ Put 0 (tableOf (now (text .entry))) (now (out .entry)) r (now (out .exit)) ⌝ }
+{
+    let reading = reader::read(text, entries);
+    let answer = reading.answer;
+    let number = read_number(answer);
+    if number == 0 {
+        let n = reading.entries;
+        let vars = reading.vars;
+        return put_list(out, &entries[..n], vars);
+    }
+    let place = read_place(answer);
+    put_refused(out, 0, number, place)
+}
