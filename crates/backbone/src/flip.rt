@@ -29,8 +29,9 @@ fn all_true(entries: &[i32], starts: &[u16], count: u32, values: &[u8]) -> bool
 {
     let mut n: u32 = 0;
     while n < count {
-        let clause = formula::clause::clause_at(
+        let clause = formula::view::clause_in(
             entries,
+            values.len(),
             starts,
             &entries[..0],
             rules::ClauseNo(n + 1),

@@ -1,7 +1,8 @@
 // The formula as the search sees it, document 01, "Meaning" and "Closing": literals and their crossings, the value of a literal,
-// the state of a clause, where the clauses start, and a clause by its number.
+// the state of a clause, where the clauses start, a clause by its number, and a view of it all.
 pub mod clause;
 pub mod lit;
 pub mod starts;
 pub mod state;
 pub mod value;
+pub mod view;

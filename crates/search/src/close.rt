@@ -1,8 +1,8 @@
 // Closing by rounds, document 01, "Closing": every clause once, in order, setting units as they are met, until a round sets nothing
 // or a clause is false.
 use crate::values::make_true;
-use formula::clause::clause_at;
 use formula::state::state_of;
+use formula::view::clause_in;
 use rules::ClauseNo;
 use rules::ClauseState;
 ghost use mathlib.Core.Path.{_≡_};
@@ -38,7 +38,7 @@ pub fn round<'a>(
     let mut n = 0;
     while n < total {
         n += 1;
-        let clause = clause_at(entries, starts, constraint, ClauseNo(n));
+        let clause = clause_in(entries, values.len(), starts, constraint, ClauseNo(n));
         match state_of(clause, values) {
             ClauseState::False => {
                 return RoundEnd::AtFalse;

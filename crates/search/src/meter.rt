@@ -1,6 +1,7 @@
-// One meter of tries serves the whole run, document 01, "Budget".
+// One meter of tries serves the whole run, document 01, "Budget". A try is taken from a meter that is lent; what is left of it is
+// computed by value.
 ghost use mathlib.Core.Path.{_≡_};
-ghost use Rattle.search.specs.Meters.{takenOf};
+ghost use Rattle.search.specs.Meters.{takenOf, afterTry};
 
 // The budget, and how many tries are spent.
 pub struct Meter {
@@ -14,17 +15,48 @@ pub enum Taken {
     Spent,
 }
 
-// A try, unless the budget is spent.
-pub fn take_try(meter: Meter) -> Taken
-    ensures { λ r. ⌜ r ≡ takenOf meter ⌝ }
+// The meter behind a try: one more is spent, unless the budget is.
+pub fn after_try(meter: Meter) -> Meter
+    ensures { λ r. ⌜ r ≡ afterTry meter ⌝ }
 {
     let budget = meter.budget;
     let spent = meter.spent;
     if spent < budget {
-        Taken::Try(Meter {
+        Meter {
             budget: budget,
             spent: spent + 1,
-        })
+        }
+    } else {
+        meter
+    }
+}
+
+// Takes a try from a meter that is lent.
+pub fn take_a_try(meter: &mut Meter)
+    ensures { λ _. ⌜ now (meter .exit) ≡ afterTry (now (meter .entry)) ⌝ }
+{
+    let after = after_try(*meter);
+    *meter = after;
+}
+
+// A meter by value is lent for one try, and handed back.
+pub fn one_more(meter: Meter) -> Meter
+    ensures { λ r. ⌜ r ≡ afterTry meter ⌝ }
+{
+    let mut lent = meter;
+    take_a_try(&mut lent);
+    lent
+}
+
+// A try, unless the budget is spent.
+pub fn take_try(meter: Meter) -> Taken
+    ensures { λ r. ⌜ r ≡ takenOf meter ⌝ }
+{
+    let after = one_more(meter);
+    let spent = meter.spent;
+    let spent_after = after.spent;
+    if spent < spent_after {
+        Taken::Try(after)
     } else {
         Taken::Spent
     }

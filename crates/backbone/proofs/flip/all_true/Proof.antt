@@ -23,14 +23,14 @@ abbrev μ-loop : tie.MeasureT-loop
 loop-holds : tie.Need-loop-holds Inv-loop μ-loop
 loop-holds c = allSo-start _ _
 
-slice-aggregate-clause-at : tie.Need-slice-aggregate-clause-at Inv-loop μ-loop
-slice-aggregate-clause-at c = search needs
+slice-aggregate-clause-in : tie.Need-slice-aggregate-clause-in Inv-loop μ-loop
+slice-aggregate-clause-in c = search needs
 
-add-t10 : tie.Need-add-t10 Inv-loop μ-loop
-add-t10 c = let s = c .before .before .before .before .before in omega (arith, s .pre .clauses-fit)
+add-t11 : tie.Need-add-t11 Inv-loop μ-loop
+add-t11 c = let s = c .before .before .before .before .before in omega (arith, s .pre .clauses-fit)
 
-clause-at-requires : tie.Need-clause-at-requires Inv-loop μ-loop
-clause-at-requires c κs =
+clause-in-requires : tie.Need-clause-in-requires Inv-loop μ-loop
+clause-in-requires c κs =
     let s = c .before .before .before .before .before in
     record { starts-are = s .pre .starts-are; some = omega arith; most = omega (arith, c .before .loop-test .taken, s .pre .count-is) }
 
@@ -38,7 +38,7 @@ has-true-requires : tie.Need-has-true-requires Inv-loop μ-loop
 has-true-requires c κs =
     let s = c .before .before .before .before .before .before in
     let n = c .before .before .before .loop .n in
-    rw (c .clause-at .ensures, add-one) (clauseAt-up-to (length (s .args .values .now)) (s .args .entries .now) [] n (s .pre .over) (omega (arith, c .before .before .loop-test .taken, s .pre .count-is)))
+    rw (c .clause-in .ensures, add-one) (clauseAt-up-to (length (s .args .values .now)) (s .args .entries .now) [] n (s .pre .over) (omega (arith, c .before .before .loop-test .taken, s .pre .count-is)))
 
 -- what the clause at hand says is what its number's clause says
 here : (c : tie.After-has-true Inv-loop μ-loop) → hasTrue (c .before .before .before .before .before .before .before .args .values .now) (getD (clauses (c .before .before .before .before .before .before .before .args .entries .now)) (c .before .before .before .before .loop .n) []) ≡ c .has-true .result
@@ -48,7 +48,7 @@ here c =
     let n = at-loop .loop .n in
     let h : suc n ≤ length (clauses (s .args .entries .now)) = omega (arith, c .before .before .before .loop-test .taken, s .pre .count-is) in
     ap (hasTrue (s .args .values .now))
-    (clauseAt-formula (s .args .entries .now) [] (suc n) (omega arith) h ∙ ap (clauseAt (s .args .entries .now) []) (sym (add-one n)) ∙ sym (c .before .clause-at .ensures)) ∙
+    (clauseAt-formula (s .args .entries .now) [] (suc n) (omega arith) h ∙ ap (clauseAt (s .args .entries .now) []) (sym (add-one n)) ∙ sym (c .before .clause-in .ensures)) ∙
     sym (c .has-true .ensures)
 
 add-n : tie.Need-add-n Inv-loop μ-loop
@@ -84,9 +84,9 @@ all-true-spec =
     Inv-loop
     μ-loop
     loop-holds
-    slice-aggregate-clause-at
-    add-t10
-    clause-at-requires
+    slice-aggregate-clause-in
+    add-t11
+    clause-in-requires
     has-true-requires
     add-n
     loop-less

@@ -26,18 +26,18 @@ loop-holds c = rounding-start _ (c .before .before .args .values .now)
 add-n : tie.Need-add-n Inv-loop μ-loop
 add-n c = search needs
 
-clause-at-requires : tie.Need-clause-at-requires Inv-loop μ-loop
-clause-at-requires c κs =
+clause-in-requires : tie.Need-clause-in-requires Inv-loop μ-loop
+clause-in-requires c κs =
     let start = c .before .before .before .before in
     record { starts-are = start .pre .starts-are; some = omega arith; most = omega (arith, c .loop-test .taken, start .pre .total-most) }
 
 -- the clause that was looked up is the next one of the call
-clause-is : (c : tie.After-clause-at Inv-loop μ-loop) → getD (callClauses (c .before .before .before .before .before .args .entries .now) (c .before .before .before .before .before .args .constraint .now) (c .before .before .before .before .before .args .total)) (c .before .before .loop .n) [] ≡ c .clause-at .result .now
+clause-is : (c : tie.After-clause-in Inv-loop μ-loop) → getD (callClauses (c .before .before .before .before .before .args .entries .now) (c .before .before .before .before .before .args .constraint .now) (c .before .before .before .before .before .args .total)) (c .before .before .loop .n) [] ≡ c .clause-in .result .now
 clause-is c =
     let start = c .before .before .before .before .before in
     let n = c .before .before .loop .n in
     getD-callClauses (start .args .entries .now) (start .args .constraint .now) (start .args .total) n (c .before .loop-test .taken) ∙
-    ap (clauseAt (start .args .entries .now) (start .args .constraint .now)) (sym (add-one n)) ∙ sym (c .clause-at .ensures)
+    ap (clauseAt (start .args .entries .now) (start .args .constraint .now)) (sym (add-one n)) ∙ sym (c .clause-in .ensures)
 
 -- and is within the call
 in-call : (c : tie.In-loop Inv-loop μ-loop) → c .before .loop .n < length (callClauses (c .before .before .before .before .args .entries .now) (c .before .before .before .before .args .constraint .now) (c .before .before .before .before .args .total))
@@ -46,11 +46,11 @@ in-call c =
     rw (length-callClauses (start .args .entries .now) (start .args .constraint .now) (start .args .total) (start .pre .total-most)) (c .loop-test .taken)
 
 -- its literals are of the variables that there are
-up-to : (c : tie.After-clause-at Inv-loop μ-loop) → ClauseUpTo (length (c .before .before .loop .values)) (c .clause-at .result .now)
+up-to : (c : tie.After-clause-in Inv-loop μ-loop) → ClauseUpTo (length (c .before .before .loop .values)) (c .clause-in .result .now)
 up-to c =
     let start = c .before .before .before .before .before in
     let n = c .before .before .loop .n in
-    rw (c .before .before .loop .inv .len, c .clause-at .ensures, add-one n)
+    rw (c .before .before .loop .inv .len, c .clause-in .ensures, add-one n)
     (clauseAt-up-to (length (start .args .values .now)) (start .args .entries .now) (start .args .constraint .now) n (start .pre .over)
     (omega (arith, c .before .loop-test .taken, start .pre .total-most)))
 
@@ -68,7 +68,7 @@ returns c =
     let state = c .before .before in
     let lookup = state .before .before in
     let l = lookup .before .before .loop in
-    rounding-false _ _ (l .n) (l .values) (l .set) (lookup .clause-at .result .now) (in-call (lookup .before)) (clause-is lookup) (l .inv)
+    rounding-false _ _ (l .n) (l .values) (l .set) (lookup .clause-in .result .now) (in-call (lookup .before)) (clause-is lookup) (l .inv)
     (sym (state .state-of .ensures) ∙ c .enum-told .given .1)
 
 enum-known-l : tie.Need-enum-known-l Inv-loop μ-loop
@@ -78,7 +78,7 @@ make-true-requires : tie.Need-make-true-requires Inv-loop μ-loop
 make-true-requires c κs =
     let state = c .before .before .before .before in
     let lookup = state .before .before in
-    unit-up-to _ (lookup .before .before .loop .values) (lookup .clause-at .result .now) (c .before .before .l .given .0 .0) (up-to lookup)
+    unit-up-to _ (lookup .before .before .loop .values) (lookup .clause-in .result .now) (c .before .before .l .given .0 .0) (up-to lookup)
     (sym (state .state-of .ensures) ∙ c .before .before .l .given .1)
 
 add-set : tie.Need-add-set Inv-loop μ-loop
@@ -96,7 +96,7 @@ loop-again c =
     let lookup = state .before .before in
     let l = lookup .before .before .loop in
     rw (c .before .before .make-true .ensures)
-    (rounding-unit _ _ (l .n) (l .values) (l .set) (lookup .clause-at .result .now) (in-call (lookup .before)) (clause-is lookup) (l .inv)
+    (rounding-unit _ _ (l .n) (l .values) (l .set) (lookup .clause-in .result .now) (in-call (lookup .before)) (clause-is lookup) (l .inv)
     (unit .l .given .0 .0) (sym (state .state-of .ensures) ∙ unit .l .given .1))
 
 enum-told-2 : tie.Need-enum-told-2 Inv-loop μ-loop
@@ -110,7 +110,7 @@ loop-again-2 c =
     let state = c .before .before in
     let lookup = state .before .before in
     let l = lookup .before .before .loop in
-    rounding-true _ _ (l .n) (l .values) (l .set) (lookup .clause-at .result .now) (in-call (lookup .before)) (clause-is lookup) (l .inv)
+    rounding-true _ _ (l .n) (l .values) (l .set) (lookup .clause-in .result .now) (in-call (lookup .before)) (clause-is lookup) (l .inv)
     (sym (state .state-of .ensures) ∙ c .enum-told2 .given .1)
 
 enum-told-3 : tie.Need-enum-told-3 Inv-loop μ-loop
@@ -124,7 +124,7 @@ loop-again-3 c =
     let state = c .before .before in
     let lookup = state .before .before in
     let l = lookup .before .before .loop in
-    rounding-undecided _ _ (l .n) (l .values) (l .set) (lookup .clause-at .result .now) (in-call (lookup .before)) (clause-is lookup) (l .inv)
+    rounding-undecided _ _ (l .n) (l .values) (l .set) (lookup .clause-in .result .now) (in-call (lookup .before)) (clause-is lookup) (l .inv)
     (sym (state .state-of .ensures) ∙ c .enum-told3 .given .1)
 
 same-length-2 : tie.Need-same-length-2 Inv-loop μ-loop
@@ -146,7 +146,7 @@ round-spec =
     μ-loop
     loop-holds
     add-n
-    clause-at-requires
+    clause-in-requires
     state-of-requires
     enum-told
     same-length
