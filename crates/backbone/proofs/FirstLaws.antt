@@ -29,12 +29,12 @@ use Rattle.formula.specs.Starts.{callClauses}
 use Rattle.formula.proofs.ClauseLaws.{callClauses-formula}
 use Rattle.search.specs.declared.call.CallEnd.{CallEnd}
 use Rattle.search.specs.Calls.{CallReady, CallEnds}
-use Rattle.backbone.specs.declared.step.State.{State}
-use Rattle.backbone.specs.Flip.{Formula}
-use Rattle.backbone.specs.Step.{Shows, StepReady}
-use Rattle.backbone.specs.Calls.{At}
+use Rattle.chunks.specs.declared.step.State.{State}
+use Rattle.steps.specs.Flip.{Formula}
+use Rattle.chunks.specs.Step.{Shows, StepReady}
+use Rattle.chunks.specs.Calls.{At}
 use Rattle.backbone.specs.First.{answerOf, endOf, Cleared, RunDone}
-use Rattle.backbone.proofs.StepLaws.{shows-row}
+use Rattle.chunks.proofs.StepLaws.{shows-row}
 
 -- before the first call
 abbrev pub started : ℕ → State

@@ -1,14 +1,3 @@
-pub mod FilterLaws
-pub mod FillLaws
-pub mod ChunkLaws
-pub mod FlipLaws
-pub mod ConstraintLaws
-pub mod RefuseLaws
-pub mod FoundLaws
-pub mod StepLaws
-pub mod CallLaws
-pub mod NextLaws
-pub mod LoopLaws
 pub mod FirstLaws
 pub mod ListingLaws
 pub mod RunLaws

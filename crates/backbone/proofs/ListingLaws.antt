@@ -24,7 +24,7 @@ use Rattle.rules.proofs.ListLaws.{eqz-other}
 use Rattle.formula.specs.Clauses.{ClauseUpTo}
 use Rattle.formula.specs.Starts.{RoomFor, StartsFound}
 use Rattle.formula.proofs.StartsLaws.{length-leading, found-front}
-use Rattle.backbone.specs.Flip.{Formula}
+use Rattle.steps.specs.Flip.{Formula}
 use Rattle.backbone.specs.First.{Cleared, Listing}
 
 length-clauses : (es : List ℤ) → length (clauses es) ≡ count isZero es

@@ -9,8 +9,8 @@ ghost use Rattle.rules.specs.declared.Outcome.{Outcome};
 ghost use Rattle.rules.specs.Search.{model};
 ghost use Rattle.rules.specs.Run.{firstCall};
 ghost use Rattle.rules.specs.Numbers.{maxChunk};
-ghost use Rattle.backbone.specs.Flip.{Formula};
-ghost use Rattle.backbone.specs.Calls.{Ready, task};
+ghost use Rattle.steps.specs.Flip.{Formula};
+ghost use Rattle.chunks.specs.Calls.{Ready, task};
 ghost use Rattle.backbone.specs.First.{Cleared, RunDone, Listing, answerOf, endOf};
 
 // The answer of a run whose first call found no model.
@@ -29,11 +29,11 @@ fn one_row(status: &[u8], log: &mut [u32], outcome: rules::Outcome, spent: u32) 
     requires { ⌜ Cleared (now status) (now log) × (length (now status) ≤ 256) ⌝ }
     ensures { λ r. ⌜ ((es : List ℤ) (budget limit : ℕ) → firstCall (task es (length (now (status .entry))) budget limit) ≡ endOf outcome spent → outcome ≢ Outcome.Model → RunDone (task es (length (now (status .entry))) budget limit) r (now (status .entry)) (now (log .exit))) ⌝ }
 {
-    crate::row::put_row(
+    steps::row::put_row(
         log,
         0,
         0,
-        crate::row::Call {
+        steps::row::Call {
             outcome: outcome,
             chunk: 0,
             by_compare: 0,
@@ -66,9 +66,9 @@ fn first_model(
     requires { ⌜ Ready (task (now entries) (length (now status)) budget limit) (now entries) (now starts) count (now status) (now values) × Cleared (now status) (now log) × (length (now first) ≡ length (now status)) × (firstCall (task (now entries) (length (now status)) budget limit) ≡ model (now values) spent) ⌝ }
     ensures { λ r. ⌜ RunDone (task (now (entries .entry)) (length (now (status .entry))) budget limit) r (now (status .exit)) (now (log .exit)) ⌝ }
 {
-    crate::buffer::copy(values, first);
+    steps::buffer::copy(values, first);
     let n = values.len() as u32;
-    let s = crate::step::after_model(
+    let s = chunks::step::after_model(
         entries,
         starts,
         count,
@@ -76,7 +76,7 @@ fn first_model(
         values,
         status,
         log,
-        crate::step::State {
+        chunks::step::State {
             size: 1,
             left: n,
             calls: 0,
@@ -87,7 +87,7 @@ fn first_model(
         0,
         spent,
     );
-    let end = crate::calls::run_chunks(
+    let end = chunks::calls::run_chunks(
         entries,
         starts,
         count,
@@ -125,7 +125,7 @@ fn first_call(
     requires { ⌜ Ready (task (now entries) (length (now status)) budget limit) (now entries) (now starts) count (now status) (now values) × Cleared (now status) (now log) × (length (now first) ≡ length (now status)) ⌝ }
     ensures { λ r. ⌜ RunDone (task (now (entries .entry)) (length (now (status .entry))) budget limit) r (now (status .exit)) (now (log .exit)) ⌝ }
 {
-    crate::buffer::clear_bytes(values);
+    steps::buffer::clear_bytes(values);
     let end = search::call::go_on(
         entries,
         starts,
@@ -198,8 +198,8 @@ pub fn accepted_run(
     requires { ⌜ Listing (now entries) limit (now status) (now log) ⌝ }
     ensures { λ r. ⌜ RunDone (task (now (entries .entry)) (length (now (status .entry))) budget limit) r (now (status .exit)) (now (log .exit)) ⌝ }
 {
-    crate::buffer::clear_bytes(status);
-    crate::buffer::clear_numbers(log);
+    steps::buffer::clear_bytes(status);
+    steps::buffer::clear_numbers(log);
     let mut starts = [0u16; 1025];
     let count = formula::starts::find_starts(entries, &mut starts);
     room_for_models(

@@ -1,17 +1,7 @@
 // The backbone run: which literals every model contains, which variables are free (document 01, "Run").
-ghost use Rattle.rules.specs.Answer.{Runs};
-ghost use Rattle.backbone.specs.Refuse.{given};
+ghost use Rattle.rules.specs.Answer.{given, Runs};
 
-mod buffer;
-mod calls;
-mod chunk;
-mod constraint;
-mod filter;
 mod first;
-mod flip;
-mod refuse;
-mod row;
-mod step;
 
 // A run (document 01, "Run" and "What comes back"): for each of the variables 1 to vars, whether it is forced or free, and a row for
 // each call. Every list, every pair of buffers and every limit is answered; what is refused writes nothing.
@@ -25,16 +15,16 @@ pub fn run(
 ) -> rules::Report
     ensures { λ r. ⌜ Runs (given (now (entries .entry)) vars budget «chunk_limit» (now (status .entry)) (now (log .entry))) r (now (status .exit)) (now (log .exit)) ⌝ }
 {
-    let refusal = refuse::refuse(entries, vars, chunk_limit, status, log);
+    let refusal = steps::refuse::refuse(entries, vars, chunk_limit, status, log);
     match refusal {
-        refuse::Refusal::Refused(answer) => rules::Report {
+        steps::refuse::Refusal::Refused(answer) => rules::Report {
             answer: answer,
             calls: 0,
             tries: 0,
             forced: 0,
             free: 0,
         },
-        refuse::Refusal::Accepted => {
+        steps::refuse::Refusal::Accepted => {
             let n = vars as usize;
             first::accepted_run(
                 entries,

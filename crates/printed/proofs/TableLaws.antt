@@ -29,7 +29,7 @@ use Rattle.rules.specs.Numbers.{maxEntries, readNumber, readPlace, runNumber}
 use Rattle.rules.specs.Text.{Sizes}
 use Rattle.rules.specs.Reading.{Judged, accepted, refused, judge, returned, readingOf, filled, written, entriesAfter, Reads}
 use Rattle.rules.specs.Run.{run}
-use Rattle.rules.specs.Answer.{Given, logLength, taskOf, isFree, isForced, refusalOf, reportOfRun, reportOf, statusAfter, Runs}
+use Rattle.rules.specs.Answer.{Given, given, logLength, taskOf, isFree, isForced, refusalOf, reportOfRun, reportOf, statusAfter, Runs}
 use Rattle.rules.specs.Refusals.{Refuses, buffer-short, text-long, no-header, bad-header, header-large, bad-token, token-after-last, variable-above, entry-over, ends-early}
 use Rattle.rules.specs.RunRefusals.{Accepted}
 use Rattle.rules.specs.Printed.{refusedLine, answerLine, statusLines, tableBy, tableOfRun, tableGiven, tableOfJudged, tableOf, maxTable, countIfRoom, bytesIfRoom, Prints}
@@ -38,7 +38,6 @@ use Rattle.rules.proofs.RefusedRuns.{run-accepted}
 use Rattle.rules.proofs.RefusalLaws.{refusal-sound}
 use Rattle.rules.proofs.PrintedLaws.{table-runs}
 use Rattle.rules.proofs.TableLaws.{length-tableOf}
-use Rattle.backbone.specs.Refuse.{given}
 use Rattle.printed.specs.Put.{Room, Put}
 use Rattle.printed.specs.Table.{sizes, listGiven, tableOfList, ListReady, Sized, Ended, TableReady}
 use Rattle.printed.proofs.PutLaws.{putAt-front, room-first, room-same, put-same}

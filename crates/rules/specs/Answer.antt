@@ -25,6 +25,10 @@ pub record Given : Type 0 where
   pub status : List ℕ
   pub log : List ℕ
 
+abbrev pub given : List ℤ → ℕ → ℕ → ℕ → List ℕ → List ℕ → Given
+given es vars budget limit status log =
+    record { entries = es; vars = vars; budget = budget; limit = limit; status = status; log = log }
+
 -- six numbers for each of V + 1 calls
 abbrev pub logLength : ℕ → ℕ
 logLength vars = 6 * (vars + 1)

@@ -1,9 +1,9 @@
 -- `run` meets its contract: what is refused writes nothing; what is accepted writes the fronts of both buffers. Assumes nothing.
 use mathlib.Core.Path.{_≡_, sym, _∙_}
 use borrow.Author.Needs.{needs}
-use Rattle.rules.specs.Answer.{Given, refusalOf}
-use Rattle.backbone.specs.declared.refuse.Refusal.the-variants.{Accepted}
-use Rattle.backbone.specs.Refuse.{found, given}
+use Rattle.rules.specs.Answer.{Given, given, refusalOf}
+use Rattle.steps.specs.declared.refuse.Refusal.the-variants.{Accepted}
+use Rattle.steps.specs.Refuse.{found}
 use Rattle.backbone.proofs.ListingLaws.{front-len}
 use Rattle.backbone.proofs.RunLaws.{accepted, listing, runs-refused, runs-accepted}
 use Rattle.backbone.proofs.run.Statement.{statement}

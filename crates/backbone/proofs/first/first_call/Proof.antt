@@ -7,8 +7,8 @@ use lib.ListN.{length, replicate}
 use Rattle.rules.specs.Meaning.{clauses}
 use Rattle.rules.specs.Run.{Task, firstCall}
 use Rattle.search.specs.Calls.{CallEnds}
-use Rattle.backbone.specs.Calls.{Ready, task}
-use Rattle.backbone.proofs.CallLaws.{ends-model, ends-none, ends-stopped}
+use Rattle.chunks.specs.Calls.{Ready, task}
+use Rattle.chunks.proofs.CallLaws.{ends-model, ends-none, ends-stopped}
 use Rattle.backbone.proofs.FirstLaws.{formula-ready, first-called}
 use Rattle.backbone.proofs.first.first_call.Statement.{statement}
 use Rattle.backbone.proofs.first.first_call.Tie as tie

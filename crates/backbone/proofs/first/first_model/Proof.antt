@@ -5,8 +5,8 @@ use Prim.Native.Nat.{ℕ}
 use borrow.Author.Needs.{needs}
 use lib.ListN.{length}
 use Rattle.rules.specs.Run.{Task, begun, afterModel}
-use Rattle.backbone.specs.Step.{Shows}
-use Rattle.backbone.specs.Calls.{At, task}
+use Rattle.chunks.specs.Step.{Shows}
+use Rattle.chunks.specs.Calls.{At, task}
 use Rattle.backbone.proofs.FirstLaws.{shows-begun, ready-begun, first-at, run-from-model, done}
 use Rattle.backbone.proofs.first.first_model.Statement.{statement}
 use Rattle.backbone.proofs.first.first_model.Tie as tie

@@ -1,0 +1,147 @@
+-- The laws of specs/Calls: what a chunk's call needs and is, what its end says, and what each end makes of the run.
+--
+--   constraint-up-to  the constraint is over the formula's variables
+--   chunk-ready       what `go_on` needs
+--   chunk-clauses     the clauses of the call, and its end by them
+--   ends-model, ends-none, ends-stopped     the call, by what it ended with
+--   step-model, step-none, step-stop        the run goes on, or stops there
+--   size-le           a chunk size is within the limit
+--   step-ready        there is room for one row more, and no count is out of range
+--
+-- Assumes nothing.
+use mathlib.Core.Path.{_≡_, refl, sym, _∙_, ap}
+use mathlib.Core.Logic.{_≢_}
+use mathlib.Core.List.{List, [], _∷_, _++_, map}
+use Prim.Native.Nat.{ℕ, zero, suc, _+_, _-_, _*_, _≤_, _<_, min}
+use native.Mathlib.Omega.{arith}
+use native.Mathlib.Numerals.{add-one}
+use native.Mathlib.Nat.{zero-add}
+use lib.IntN.{ℤ}
+use lib.ListN.{length, getD, take, drop, List·getD-eq-default}
+use Rattle.rules.specs.declared.Outcome.{Outcome}
+use Rattle.rules.specs.declared.RunAnswer.{RunAnswer}
+use Rattle.rules.specs.Lists.{In, count}
+use Rattle.rules.specs.Numbers.{maxVars}
+use Rattle.rules.specs.Meaning.{Clause, Values, varOf, negated, clauses, LitUpTo}
+use Rattle.rules.specs.Search.{Call, model, no-model, stopped, outcomeOf, triesOf, callOn}
+use Rattle.rules.specs.Run.{Task, Progress, statusAt, opens, isOpen, literalAt, candidatesFrom, constraint, chunkOf, chunkCall, forcedValues, afterModel, afterNone, afterStop, Ended, endedBy, onOpen, chunks}
+use Rattle.rules.specs.Trace.{Reached, first-model, next-model, next-none}
+use Rattle.rules.specs.Answer.{isFree, isForced, logLength, logOfRows}
+use Rattle.rules.proofs.ListLaws.{map-in, in-take, count-le}
+use Rattle.rules.proofs.StatusLaws.{candidate-open}
+use Rattle.rules.proofs.KnownLaws.{Known, first-model-is}
+use Rattle.rules.proofs.RunTrace.{known}
+use Rattle.rules.proofs.RunNext.{chunks-next}
+use Rattle.rules.proofs.LogLaws.{calls-opens-le}
+use Rattle.formula.specs.Clauses.{ClauseUpTo}
+use Rattle.formula.specs.Starts.{startsOf, Over, callClauses}
+use Rattle.formula.proofs.ClauseLaws.{callClauses-constraint}
+use Rattle.search.specs.declared.call.CallEnd.{CallEnd}
+use Rattle.search.specs.Closings.{WellFormed}
+use Rattle.search.specs.Calls.{CallReady, CallEnds}
+use Rattle.chunks.specs.declared.step.State.{State}
+use Rattle.steps.specs.Constraint.{ConstraintPut}
+use Rattle.steps.specs.Flip.{Formula}
+use Rattle.chunks.specs.Step.{Shows, StepReady}
+use Rattle.chunks.specs.Calls.{At, Ready}
+use Rattle.steps.proofs.ConstraintLaws.{varOf-false}
+use Rattle.chunks.proofs.StepLaws.{length-logOfRows}
+
+-- ---- the call
+
+open-in : (ss : List ℕ) (i : ℕ) → statusAt ss i ≡ 0 → i < length ss
+open-in [] i e = absurd (omega arith)
+open-in (s ∷ ss) zero e = omega arith
+open-in (s ∷ ss) (suc i) e = omega (arith, open-in ss i e)
+
+pub constraint-up-to : (first status : List ℕ) (n : ℕ) → ClauseUpTo (length status) (constraint (take n (candidatesFrom 0 first status)))
+constraint-up-to first status n = record { each = λ l i. go l (map-in negated (take n (candidatesFrom 0 first status)) i) }
+  where
+    go : (l : ℤ) → (x : ℤ) × In x (take n (candidatesFrom 0 first status)) × (l ≡ negated x) → LitUpTo (length status) l
+    go l (x, h, e) =
+        let (i, q, z) = candidate-open 0 first status (in-take n (candidatesFrom 0 first status) h) in
+        let v : varOf l ≡ suc (0 + i) = ap varOf (e ∙ ap negated q) ∙ varOf-false (0 + i) (getD first i 1) in
+        record { some = omega arith; most = omega (arith, open-in status i z) }
+
+module _ {es : List ℤ} {starts : List ℕ} {count n : ℕ} (f : Formula n es starts count) (con : Clause) where
+  pub chunk-ready : (vs : Values) → length vs ≡ n → ClauseUpTo n con → CallReady vs es starts con (count + 1)
+  chunk-ready vs e u =
+      record {
+        vars-fit = omega (arith, f .vars-fit);
+        well-formed =
+            record {
+              starts-are = f .starts-are;
+              over = rw e (record { entries-up-to = f .over .entries-up-to; constraint-up-to = u });
+              total-most = omega (arith, f .count-is);
+            };
+      }
+
+  pub chunk-clauses : callClauses es con (count + 1) ≡ clauses es ++ (con ∷ [])
+  chunk-clauses = ap (callClauses es con) (add-one count ∙ ap suc (f .count-is)) ∙ callClauses-constraint es con
+
+-- ---- what its end says
+
+module _ {c : Call} {vs after : Values} {budget : ℕ} {r : CallEnd} (w : CallEnds c vs budget r after) where
+  pub ends-model : r .outcome ≡ Outcome.Model → c ≡ model after (r .meter .spent)
+  ends-model e = go c (w .outcome-is) (w .spent-is) (w .values-are)
+    where
+      go : (c : Call) → r .outcome ≡ outcomeOf c → r .meter .spent ≡ triesOf c → after ≡ Rattle.search.specs.Calls.valuesAfter c vs → c ≡ model after (r .meter .spent)
+      go (model m t) o s v = cc
+      go (no-model t) o s v = absurd (let y : _≡_ {A = ℕ} 0 1 = cc in omega arith)
+      go (stopped t) o s v = absurd (let y : _≡_ {A = ℕ} 0 1 = cc in omega arith)
+
+  pub ends-none : r .outcome ≡ Outcome.NoModel → c ≡ no-model (r .meter .spent)
+  ends-none e = go c (w .outcome-is) (w .spent-is)
+    where
+      go : (c : Call) → r .outcome ≡ outcomeOf c → r .meter .spent ≡ triesOf c → c ≡ no-model (r .meter .spent)
+      go (model m t) o s = absurd (let y : _≡_ {A = ℕ} 0 1 = cc in omega arith)
+      go (no-model t) o s = cc
+      go (stopped t) o s = absurd (let y : _≡_ {A = ℕ} 0 1 = cc in omega arith)
+
+  pub ends-stopped : r .outcome ≡ Outcome.Stopped → c ≡ stopped (r .meter .spent)
+  ends-stopped e = go c (w .outcome-is) (w .spent-is)
+    where
+      go : (c : Call) → r .outcome ≡ outcomeOf c → r .meter .spent ≡ triesOf c → c ≡ stopped (r .meter .spent)
+      go (model m t) o s = absurd (let y : _≡_ {A = ℕ} 0 1 = cc in omega arith)
+      go (no-model t) o s = absurd (let y : _≡_ {A = ℕ} 0 1 = cc in omega arith)
+      go (stopped t) o s = cc
+
+-- ---- the run goes on, or stops there
+
+module _ {k : Task} {size n : ℕ} {p : Progress} (limit : 1 ≤ k .limit) (r : Reached k size p) (o : opens (p .statuses) ≡ suc n) where
+  next : {c : Call} → chunkCall k p (min size (suc n)) ≡ c → chunks k size p ≡ Rattle.rules.specs.Run.onCall c k p size (min size (suc n)) (λ s q. chunks k s q)
+  next {c} e =
+      chunks-next limit r ∙ ap (λ (j : ℕ). onOpen j k size p (λ s q. chunks k s q)) o ∙
+      ap (λ (c : Call). Rattle.rules.specs.Run.onCall c k p size (min size (suc n)) (λ s q. chunks k s q)) e
+
+  pub step-model : (m : Values) (t : ℕ) → chunkCall k p (min size (suc n)) ≡ model m t → chunks k size p ≡ chunks k 1 (afterModel k p (min size (suc n)) m t)
+  step-model m t e = next e
+
+  pub step-none : (t : ℕ) → chunkCall k p (min size (suc n)) ≡ no-model t → chunks k size p ≡ chunks k (min (size + size) (k .limit)) (afterNone p (min size (suc n)) t)
+  step-none t e = next e
+
+  pub step-stop : (t : ℕ) → chunkCall k p (min size (suc n)) ≡ stopped t → chunks k size p ≡ endedBy RunAnswer.Stopped (afterStop p (min size (suc n)) t)
+  step-stop t e = next e
+
+pub size-le : {k : Task} {size : ℕ} {p : Progress} → 1 ≤ k .limit → Reached k size p → size ≤ k .limit
+size-le h (first-model m t e) = h
+size-le h (next-model n m t r o e) = h
+size-le h (next-none n t r o e) = omega arith
+
+-- ---- what a step needs
+
+pub step-ready : {k : Task} {s : State} {first status log : List ℕ} → 1 ≤ k .limit → k .vars ≤ maxVars → (w : At k s first status log) → 1 ≤ s .left → (spent : ℕ) → s .tries ≤ spent → StepReady first status log s spent
+step-ready {k} {s} {first} {status} {log} limit v w some spent t =
+    let x = w .shows in
+    let n = known (w .reached) in
+    let r = calls-opens-le limit (w .reached) in
+    record {
+      len = ap length (x .first-is) ∙ first-model-is n .len ∙ sym (n .len) ∙ sym (ap length (x .status-is));
+      vars-fit = omega (arith, ap length (x .status-is), n .len);
+      log-room = omega (arith, ap length (x .log-is), length-logOfRows (k .vars) (w .progress .rows), x .calls-is, x .left-is, r);
+      calls-fit = omega (arith, x .calls-is, x .left-is, r);
+      left-is = x .left-is ∙ ap opens (sym (x .status-is));
+      free-fit = omega (arith, x .free-is, count-le isFree (w .progress .statuses), n .len);
+      forced-fit = omega (arith, x .forced-is, count-le isForced (w .progress .statuses), n .len);
+      tries-up = t;
+    }

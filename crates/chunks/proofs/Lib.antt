@@ -1,0 +1,4 @@
+pub mod StepLaws
+pub mod CallLaws
+pub mod NextLaws
+pub mod LoopLaws

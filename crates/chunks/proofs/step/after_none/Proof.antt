@@ -1,0 +1,61 @@
+-- `step::after_none` meets its contract: by the law of a step after none. Assumes nothing.
+use mathlib.Core.Path.{_≡_, sym, _∙_, ap}
+use native.Mathlib.Omega.{arith}
+use borrow.Author.Needs.{needs}
+use lib.ListN.{length}
+use Rattle.rules.specs.Run.{isOpen, opens}
+use Rattle.rules.proofs.ListLaws.{count-le}
+use Rattle.chunks.proofs.StepLaws.{shows-none}
+use Rattle.chunks.proofs.step.after_none.Statement.{statement}
+use Rattle.chunks.proofs.step.after_none.Tie as tie
+
+force-first-requires : tie.Need-force-first-requires
+force-first-requires c κs = search needs
+
+put-row-requires : tie.Need-put-row-requires
+put-row-requires c κs = search needs
+
+doubled-requires : tie.Need-doubled-requires
+doubled-requires c κs = search needs
+
+sub-t16 : tie.Need-sub-t16
+sub-t16 c = search needs
+
+add-t17 : tie.Need-add-t17
+add-t17 c = search needs
+
+add-t18 : tie.Need-add-t18
+add-t18 c =
+    let s = c .before .before .before .before .before .before .before .before .before .before .before .before .before .before .before in
+    omega (arith, count-le isOpen (s .args .status .now), s .pre .0)
+
+same-length : tie.Need-same-length
+same-length c = search needs
+
+same-length-2 : tie.Need-same-length-2
+same-length-2 c = search needs
+
+returns : tie.Need-returns
+returns c =
+    let d = c .before .before .before in
+    let put = d .before .before .before in
+    let force = put .before .before .before .before in
+    let s = force .before .before .before .before .before in
+    λ k p w. (
+      d .doubled .ensures,
+      shows-none k p (s .args .s) w (s .pre .0 .log-room) (s .args .chunk) _ (s .args .spent) (sym (ap length (w .first-is)) ∙ s .pre .0 .len ∙ ap length (w .status-is)) (omega (arith, s .pre .1, s .pre .0 .left-is, ap opens (w .status-is))) (force .force-first .ensures) (put .put-row .ensures),
+    )
+
+pub after-none-spec : {M : Type 1} → statement M
+after-none-spec =
+    tie.close
+    (tie.spec
+    force-first-requires
+    put-row-requires
+    doubled-requires
+    sub-t16
+    add-t17
+    add-t18
+    same-length
+    same-length-2
+    returns)

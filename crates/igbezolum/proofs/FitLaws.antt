@@ -1,0 +1,77 @@
+-- From the promises of the crates below to those in numbers.
+--   reads-fit runs-fit   places and counts fit the fields of the structs
+--   reads-in runs-in     what is returned in numbers, with the buffers as they were left
+-- Assumes nothing.
+use mathlib.Core.Path.{_≡_, refl, _∙_, ap}
+use mathlib.Core.Logic.{_⊎_, inl, inr}
+use mathlib.Core.List.{List, _∷_}
+use mathlib.Core.Option.{Option, none, some}
+use Prim.Native.Nat.{ℕ, _≤_}
+use native.Mathlib.Omega.{arith}
+use lib.IntN.{ℤ, pos}
+use lib.ListN.{length, length-append}
+use Rattle.rules.specs.declared.Reading.{Reading}
+use Rattle.rules.specs.declared.RunAnswer.{RunAnswer}
+use Rattle.rules.specs.declared.Report.{Report}
+use Rattle.rules.specs.Numbers.{maxEntries, runPlace}
+use Rattle.rules.specs.Reading.{Judged, accepted, refused, judge, returned, readingOf, Reads}
+use Rattle.rules.specs.Answer.{Given, refusalOf, taskOf, reportIf, reportOf, Runs}
+use Rattle.rules.specs.RunRefusals.{RunRefuses, out-of-limits, buffer-short, list-long, not-ended, zero-over, variable-above}
+use Rattle.rules.proofs.RefusalLaws.{refusal-sound}
+use Rattle.rules.proofs.PlaceLaws.{refuses-place}
+use Rattle.rules.proofs.PrintedLaws.{table-runs}
+use Rattle.rules.proofs.RefusedRuns.{run-refused, run-accepted}
+use Rattle.rules.proofs.RunTheorems.{run-answer}
+use Rattle.igbezolum.specs.declared.IgbReading.{IgbReading}
+use Rattle.igbezolum.specs.declared.IgbReport.{IgbReport}
+use Rattle.igbezolum.specs.Linked.{readingNumbers, reportNumbers, ReadsIn, RunsIn, ReadingFits}
+
+-- ---- a reading
+
+returned-is : {text : List ℕ} {before after : List ℤ} {r : Reading} → Reads text before r after → r ≡ returned (judge (length before) text)
+unfolding readingOf
+returned-is d = d .result-is
+
+pub reads-fit : {text : List ℕ} {before after : List ℤ} {r : Reading} → Reads text before r after → ReadingFits r
+reads-fit {text = text} {before = before} {r = r} d = go (judge (length before) text) refl (returned-is d)
+  where
+    go : (j : Judged) → judge (length before) text ≡ j → r ≡ returned j → ReadingFits r
+    go (refused a) q e =
+        rw e (record { place-fits = refuses-place (refusal-sound (length before) text q); count-fits = omega arith })
+    go (accepted s es) q e =
+        rw e (record { place-fits = omega arith; count-fits = table-runs (length before) text q .listed .entries-fit })
+
+-- ---- a run
+
+refused-place : {g : Given} {a : RunAnswer} → RunRefuses g a → runPlace a ≤ maxEntries
+refused-place (out-of-limits h) = omega arith
+refused-place (buffer-short w h) = omega arith
+refused-place (list-long w h) = omega arith
+refused-place (not-ended w s front l q h) = s
+refused-place (zero-over w s d front back q h) = omega (arith, s, ap length q, length-append front (pos 0 ∷ back))
+refused-place (variable-above w front l back q k h) = omega (arith, w .entries-fit, ap length q, length-append front (l ∷ back))
+
+ended-place : {a : RunAnswer} → (a ≡ RunAnswer.Settled) ⊎ ((a ≡ RunAnswer.NoModel) ⊎ (a ≡ RunAnswer.Stopped)) → runPlace a ≤ maxEntries
+ended-place (inl h) = rw h (omega arith)
+ended-place (inr (inl h)) = rw h (omega arith)
+ended-place (inr (inr h)) = rw h (omega arith)
+
+report-is : {g : Given} {r : Report} {status log : List ℕ} → Runs g r status log → r ≡ reportIf (refusalOf g) (taskOf g)
+unfolding reportOf
+report-is d = d .result-is
+
+pub runs-fit : {g : Given} {r : Report} {status log : List ℕ} → Runs g r status log → runPlace (r .answer) ≤ maxEntries
+runs-fit {g = g} {r = r} d = go (refusalOf g) refl (report-is d)
+  where
+    go : (o : Option RunAnswer) → refusalOf g ≡ o → r ≡ reportIf o (taskOf g) → runPlace (r .answer) ≤ maxEntries
+    go (some a) q e = rw e (refused-place (run-refused g a .0 q))
+    go none q e =
+        rw e (ended-place (run-answer (taskOf g) (run-accepted g .0 q .listed .lent .in-limits .limit-some)))
+
+-- ---- the promise in numbers follows from the promise of the crate below
+
+pub reads-in : {text : List ℕ} {before after : List ℤ} {r : Reading} {n : IgbReading} → Reads text before r after → n ≡ readingNumbers r → ReadsIn text before n after
+reads-in d e = record { result-is = e ∙ ap readingNumbers (d .result-is); after-is = d .after-is }
+
+pub runs-in : {g : Given} {r : Report} {status log : List ℕ} {n : IgbReport} → Runs g r status log → n ≡ reportNumbers r → RunsIn g n status log
+runs-in d e = record { result-is = e ∙ ap reportNumbers (d .result-is); status-is = d .status-is; log-is = d .log-is }

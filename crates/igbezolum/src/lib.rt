@@ -1,0 +1,95 @@
+// The functions that C and Rust link (libigbezolum.a): the reader, the run and the printed table, each thin over its crate. They answer
+// in the numbers of document 01, "What comes back"; include/igbezolum.h is the page for their callers.
+ghost use mathlib.Core.Path.{_≡_};
+ghost use Prim.Native.Nat.{_≤_};
+ghost use Rattle.rules.specs.Numbers.{maxEntries, runPlace};
+ghost use Rattle.rules.specs.Answer.{given};
+ghost use Rattle.rules.specs.Printed.{Prints};
+ghost use Rattle.igbezolum.specs.Linked.{readingNumbers, reportNumbers, ReadingFits, ReadsIn, RunsIn};
+use rules::numbers::read_number;
+use rules::numbers::read_place;
+use rules::numbers::run_number;
+use rules::numbers::run_place;
+
+// What a reading returns, in numbers.
+#[repr(C)]
+pub struct IgbReading {
+    pub answer: u32,
+    pub place: u32,
+    pub vars: u32,
+    pub clauses: u32,
+    pub count: u32,
+}
+
+// What a run returns, in numbers.
+#[repr(C)]
+pub struct IgbReport {
+    pub answer: u32,
+    pub place: u32,
+    pub calls: u32,
+    pub tries: u32,
+    pub forced: u32,
+    pub free: u32,
+}
+
+fn reading_numbers(reading: rules::Reading) -> IgbReading
+    requires { ⌜ ReadingFits reading ⌝ }
+    ensures { λ r. ⌜ r ≡ readingNumbers reading ⌝ }
+{
+    let answer = reading.answer;
+    IgbReading {
+        answer: read_number(answer),
+        place: read_place(answer) as u32,
+        vars: reading.vars,
+        clauses: reading.clauses,
+        count: reading.entries as u32,
+    }
+}
+
+fn report_numbers(report: rules::Report) -> IgbReport
+    requires { ⌜ runPlace (report .answer) ≤ maxEntries ⌝ }
+    ensures { λ r. ⌜ r ≡ reportNumbers report ⌝ }
+{
+    let answer = report.answer;
+    IgbReport {
+        answer: run_number(answer),
+        place: run_place(answer) as u32,
+        calls: report.calls,
+        tries: report.tries,
+        forced: report.forced,
+        free: report.free,
+    }
+}
+
+// Reads a text into the entries that are lent.
+#[no_mangle]
+pub extern "C" fn igb_read(text: &[u8], entries: &mut [i32]) -> IgbReading
+    ensures { λ r. ⌜ ReadsIn (now (text .entry)) (now (entries .entry)) r (now (entries .exit)) ⌝ }
+{
+    let reading = reader::read(text, entries);
+    reading_numbers(reading)
+}
+
+// The run over an entry list, into the statuses and the log that are lent.
+#[no_mangle]
+pub extern "C" fn igb_run(
+    entries: &[i32],
+    vars: u32,
+    budget: u32,
+    chunk_limit: u32,
+    status: &mut [u8],
+    log: &mut [u32],
+) -> IgbReport
+    ensures { λ r. ⌜ RunsIn (given (now (entries .entry)) vars budget «chunk_limit» (now (status .entry)) (now (log .entry))) r (now (status .exit)) (now (log .exit)) ⌝ }
+{
+    let report = backbone::run(entries, vars, budget, chunk_limit, status, log);
+    report_numbers(report)
+}
+
+// The printed table of a text, put at the start of the buffer that is lent; how many bytes it has.
+#[no_mangle]
+pub extern "C" fn igb_table(text: &[u8], out: &mut [u8]) -> usize
+    ensures { λ r. ⌜ Prints (now (text .entry)) (now (out .entry)) r (now (out .exit)) ⌝ }
+{
+    printed::print(text, out)
+}

@@ -1,0 +1,119 @@
+-- The laws of specs/Flip: whether a clause has a true literal, by its state; all clauses, one after the other; a variable flipped and
+-- taken back.
+--
+--   hasTrue-of-state  a clause has a true literal exactly if its state is True
+--   otherByte-high    the other byte of 2
+--   AllSo, allSo-start, allSo-step, allSo-stop, allSo-done     the loop of `all_true`
+--   taken-back        a byte stored and stored back
+--   canFlip-is        what `can_flip` does
+--   Flipping, flipping-start, flipping-step, flipping-done     the loop of `flip`
+--   flips-open, flips-closed     what `flip_at` does at an open variable, and at another
+--
+-- Assumes nothing.
+use mathlib.Core.Path.{_≡_, refl, sym, _∙_, ap}
+use mathlib.Core.Logic.{_≢_}
+use mathlib.Core.Bool.{Bool, true, false}
+use mathlib.Core.List.{List, [], _∷_, _++_}
+use Prim.Native.Nat.{ℕ, zero, suc, pred, _+_, _≤_, _<_}
+use native.Mathlib.Omega.{arith}
+use native.Mathlib.Numerals.{add-one}
+use lib.IntN.{ℤ}
+use lib.ListN.{length, getD, set, take}
+use lib.Seq.{take-suc, take-all, set-set, set-getD}
+use Rattle.rules.specs.declared.ClauseState.{ClauseState}
+use Rattle.rules.specs.declared.ClauseState.the-variants.{False, Unit, True, Undecided}
+use Rattle.rules.specs.Lists.{In}
+use Rattle.rules.specs.Meaning.{Clause, Values, hasTrue, satisfies}
+use Rattle.rules.specs.Closing.{stateOf}
+use Rattle.rules.specs.Run.{otherByte, flipped, canFlip}
+use Rattle.steps.specs.Filter.{DropsAt}
+use Rattle.steps.specs.Flip.{CanFlip, FlipsAt, Flips}
+use Rattle.steps.proofs.FilterLaws.{drops-closed, Filtering, filtering-start, filtering-step, filtering-done}
+use Rattle.rules.proofs.ListLaws.{never, not-true, in-getD, getD-default, all-sound, all-append-of}
+use Rattle.rules.proofs.StateLaws.{Means, means}
+
+-- ---- one clause
+
+abbrev pub isTrueState : ClauseState → Bool
+isTrueState False = false
+isTrueState (Unit l) = false
+isTrueState True = true
+isTrueState Undecided = false
+
+pub hasTrue-of-state : (vs : Values) (cl : Clause) (s : ClauseState) → s ≡ stateOf vs cl → isTrueState s ≡ hasTrue vs cl
+hasTrue-of-state vs cl s e = go s (rw (← e) at (means vs cl))
+  where
+    go : (s : ClauseState) → Means vs cl s → isTrueState s ≡ hasTrue vs cl
+    go False m = sym (m .none-true)
+    go (Unit l) m = sym (m .none-true)
+    go True m = sym m
+    go Undecided m = sym (m .none-true)
+
+-- ---- all clauses
+
+pub record AllSo (vs : Values) (F : List Clause) (n : ℕ) : Type 0 where
+  pub within : n ≤ length F
+  pub so-far : satisfies vs (take n F) ≡ true
+
+pub allSo-start : (vs : Values) (F : List Clause) → AllSo vs F 0
+allSo-start vs F = record { within = omega arith; so-far = refl }
+
+pub allSo-step : {vs : Values} {F : List Clause} {n : ℕ} → AllSo vs F n → n < length F → hasTrue vs (getD F n []) ≡ true → AllSo vs F (n + 1)
+allSo-step {vs} {F} {n} w h e =
+    record { within = omega arith; so-far = rw (add-one, take-suc F n [] h) (all-append-of (hasTrue vs) (take n F) (getD F n [] ∷ []) (w .so-far) (rw e)) }
+
+pub allSo-stop : (vs : Values) (F : List Clause) (n : ℕ) → n < length F → hasTrue vs (getD F n []) ≡ false → satisfies vs F ≡ false
+allSo-stop vs F n h e = not-true (satisfies vs F) (λ s. never (all-sound (hasTrue vs) s (in-getD F n [] h)) e)
+
+pub allSo-done : {vs : Values} {F : List Clause} {n : ℕ} → AllSo vs F n → length F ≤ n → satisfies vs F ≡ true
+allSo-done {vs} {F} {n} w h = rw (take-all n F h) at (w .so-far)
+
+-- ---- a flip
+
+pub otherByte-high : (b : ℕ) → b ≢ 0 → b ≢ 1 → otherByte b ≡ 1
+otherByte-high zero n m = absurd (n refl)
+otherByte-high (suc zero) n m = absurd (m refl)
+otherByte-high (suc (suc b)) n m = refl
+
+pub taken-back : (vs : Values) (i b : ℕ) → set (set vs i b) i (getD vs i 0) ≡ vs
+taken-back vs i b = set-set vs i b (getD vs i 0) ∙ set-getD vs i 0
+
+-- `byte` is the variable's, and `other` the other one
+pub canFlip-is : {F : List Clause} {m : Values} {v at other : ℕ} {r : Bool} → at + 1 ≡ v → at < length m → other ≡ otherByte (getD m at 0) → r ≡ satisfies (set m at other) F → CanFlip F v m r (set (set m at other) at (getD m at 0))
+canFlip-is {F} {m} {v} {at} {other} {r} e h o s =
+    record { result-is = s ∙ ap (λ (w : Values). satisfies w F) (same ∙ ap (flipped m) index); model-same = taken-back m at other }
+  where
+    same : set m at other ≡ flipped m at
+    same = ap (set m at) (o ∙ ap otherByte (getD-default m at 0 1 h))
+
+    index : at ≡ pred v
+    index = omega arith
+
+-- ---- one index
+
+pub flips-open : {F : List Clause} {i d : ℕ} {m m′ : Values} {r : Bool} {ss ts : List ℕ} → CanFlip F (i + 1) m r m′ → DropsAt i r ss d ts → FlipsAt F i m ss d m′ ts
+flips-open {F} {i} {d} {m} {m′} {r} {ss} {ts} c w =
+    let e : r ≡ canFlip F m i = c .result-is ∙ ap (canFlip F m) (ap pred (add-one i)) in
+    record { drops = rw e at w; model-same = c .model-same }
+
+pub flips-closed : (F : List Clause) (i : ℕ) (m : Values) (ss : List ℕ) → getD ss i 0 ≢ 0 → FlipsAt F i m ss 0 m ss
+flips-closed F i m ss n = record { drops = drops-closed ss i (canFlip F m i) n; model-same = refl }
+
+-- ---- the loop: the model is as it was, and what is left is to free behind i
+
+pub record Flipping (F : List Clause) (m₀ : Values) (before : List ℕ) (dropped i : ℕ) (m : Values) (now : List ℕ) : Type 0 where
+  pub model-same : m ≡ m₀
+  pub filtering : Filtering (canFlip F m₀) before dropped i now
+
+pub flipping-start : (F : List Clause) (m : Values) (ss : List ℕ) → Flipping F m ss 0 0 m ss
+flipping-start F m ss = record { model-same = refl; filtering = filtering-start (canFlip F m) ss }
+
+pub flipping-step : {F : List Clause} {m₀ m m′ : Values} {before now after : List ℕ} {dropped i r : ℕ} → Flipping F m₀ before dropped i m now → i < length now → FlipsAt F i m now r m′ after → Flipping F m₀ before (dropped + r) (i + 1) m′ after
+flipping-step {F} {m₀} {m} {i = i} w h f =
+    record {
+      model-same = f .model-same ∙ w .model-same;
+      filtering = filtering-step (canFlip F m i) (w .filtering) h (ap (λ (v : Values). canFlip F v i) (sym (w .model-same))) (f .drops);
+    }
+
+pub flipping-done : {F : List Clause} {m₀ m : Values} {before now : List ℕ} {dropped i : ℕ} → Flipping F m₀ before dropped i m now → length now ≤ i → Flips F m₀ before dropped m now
+flipping-done w h = record { drops = filtering-done (w .filtering) h; model-same = w .model-same }

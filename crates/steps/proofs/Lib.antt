@@ -1,0 +1,8 @@
+-- Laws that belong to no one function.
+pub mod FilterLaws
+pub mod FillLaws
+pub mod ChunkLaws
+pub mod FlipLaws
+pub mod ConstraintLaws
+pub mod RefuseLaws
+pub mod FoundLaws

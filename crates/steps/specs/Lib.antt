@@ -1,0 +1,6 @@
+-- What the steps of a run promise.
+pub mod Filter
+pub mod Chunk
+pub mod Flip
+pub mod Constraint
+pub mod Refuse

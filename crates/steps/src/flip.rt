@@ -1,0 +1,107 @@
+// Flips (document 01, "Run"): each remaining candidate whose variable, flipped alone in the model, leaves all clauses of the formula
+// true is dropped. Neither the constraint nor the forced literals are consulted.
+ghost use mathlib.Core.Path.{_≡_};
+ghost use Prim.Native.Nat.{_+_, _≤_, _<_};
+ghost use lib.ListN.{length};
+ghost use Rattle.rules.specs.Meaning.{hasTrue, satisfies, clauses};
+ghost use Rattle.rules.specs.Run.{canFlip, otherByte};
+ghost use Rattle.formula.specs.Clauses.{ClauseUpTo};
+ghost use Rattle.steps.specs.Filter.{DropsAt, Drops};
+ghost use Rattle.steps.specs.Flip.{Formula, Flips, FlipsAt, CanFlip};
+
+// Whether a clause has a true literal.
+fn has_true(clause: &[i32], values: &[u8]) -> bool
+    requires { ⌜ ClauseUpTo (length (now values)) (now clause) ⌝ }
+    ensures { λ r. ⌜ r ≡ hasTrue (now (values .entry)) (now (clause .entry)) ⌝ }
+{
+    match formula::state::state_of(clause, values) {
+        rules::ClauseState::True => true,
+        rules::ClauseState::False => false,
+        rules::ClauseState::Unit(_) => false,
+        rules::ClauseState::Undecided => false,
+    }
+}
+
+// Whether all clauses of the formula have a true literal.
+fn all_true(entries: &[i32], starts: &[u16], count: u32, values: &[u8]) -> bool
+    requires { ⌜ Formula (length (now values)) (now entries) (now starts) count ⌝ }
+    ensures { λ r. ⌜ r ≡ satisfies (now (values .entry)) (clauses (now (entries .entry))) ⌝ }
+{
+    let mut n: u32 = 0;
+    while n < count {
+        let clause = formula::view::clause_in(
+            entries,
+            values.len(),
+            starts,
+            &entries[..0],
+            rules::ClauseNo(n + 1),
+        );
+        if has_true(clause, values) {
+            n += 1;
+        } else {
+            return false;
+        }
+    }
+    true
+}
+
+// The other of the two values.
+fn other_byte(byte: u8) -> u8
+    ensures { λ r. ⌜ r ≡ otherByte byte ⌝ }
+{
+    if byte == 0 {
+        0
+    } else if byte == 1 {
+        2
+    } else {
+        1
+    }
+}
+
+// Whether a variable, flipped alone in the model, leaves all clauses of the formula true. The model is afterwards what it was: no
+// flip is kept for the next.
+fn can_flip(entries: &[i32], starts: &[u16], count: u32, model: &mut [u8], v: rules::Var) -> bool
+    requires { ⌜ Formula (length (now model)) (now entries) (now starts) count × (1 ≤ v .0) × (v .0 ≤ length (now model)) ⌝ }
+    ensures { λ r. ⌜ CanFlip (clauses (now (entries .entry))) (v .0) (now (model .entry)) r (now (model .exit)) ⌝ }
+{
+    let at = formula::value::index_of(v);
+    let byte = model[at];
+    model[at] = other_byte(byte);
+    let holds = all_true(entries, starts, count, model);
+    model[at] = byte;
+    holds
+}
+
+// Drops the candidate at an index if its variable can be flipped, and answers 1 if so, else 0.
+fn flip_at(
+    entries: &[i32],
+    starts: &[u16],
+    count: u32,
+    model: &mut [u8],
+    status: &mut [u8],
+    i: usize,
+) -> u32
+    requires { ⌜ Formula (length (now model)) (now entries) (now starts) count × (i < length (now model)) × (i < length (now status)) ⌝ }
+    ensures { λ r. ⌜ FlipsAt (clauses (now (entries .entry))) i (now (model .entry)) (now (status .entry)) r (now (model .exit)) (now (status .exit)) ⌝ }
+{
+    if status[i] == 0 {
+        let free = can_flip(entries, starts, count, model, rules::Var(i as u32 + 1));
+        crate::filter::drop_if(status, i, free)
+    } else {
+        0
+    }
+}
+
+// Drops each remaining candidate whose variable can be flipped, one by one, and answers how many.
+pub fn flip(entries: &[i32], starts: &[u16], count: u32, model: &mut [u8], status: &mut [u8]) -> u32
+    requires { ⌜ Formula (length (now model)) (now entries) (now starts) count × (length (now model) ≡ length (now status)) ⌝ }
+    ensures { λ r. ⌜ Flips (clauses (now (entries .entry))) (now (model .entry)) (now (status .entry)) r (now (model .exit)) (now (status .exit)) ⌝ }
+{
+    let mut dropped: u32 = 0;
+    let mut i: usize = 0;
+    while i < status.len() {
+        dropped += flip_at(entries, starts, count, model, status, i);
+        i += 1;
+    }
+    dropped
+}
