@@ -102,7 +102,7 @@ fn compare(fault: Option<&str>, folder: &str, seed: u64, n: u64) -> Result<bool,
         }
     }
     for (i, call) in edges.into_iter().enumerate() {
-        if !judged.is_same(&format!("edge {i}"), &Case { paint: seed + i as u64, call }) {
+        if !judged.is_same(&format!("edge {i}"), &Case { paint: seed.wrapping_add(i as u64), call }) {
             return Ok(false);
         }
     }
