@@ -28,7 +28,6 @@ block() {
         in_section {if (/^    /) {if (!inside) k++; inside = 1; if (k == n) print substr($0, 5)} else inside = 0}' README.md
 }
 shown=$(block 2)
-has_valgrind=$(has valgrind >"$log" && echo yes || cat "$log")
 
 if has gcc; then
     strict=(-Wall -Wextra -Werror -pedantic -Iinclude)
@@ -40,12 +39,10 @@ if has gcc; then
         "target/c/$name" || exit 1
     done
     # not stack, which reads what a thread has left on its stack
-    if [ "$has_valgrind" = yes ]; then
+    if has valgrind; then
         quietly "interface.c under valgrind" valgrind --error-exitcode=1 --leak-check=full -q target/c/interface
         quietly "threads.c under valgrind" valgrind --error-exitcode=1 --leak-check=full -q target/c/threads 5
         echo "library: valgrind finds nothing in the tests from C"
-    else
-        echo "$has_valgrind"
     fi
     if has pkg-config; then
         if ! said=$(bash -e -c "$(block 1)" 2>"$log") || [ -z "$shown" ] || [ "$said" != "$shown" ]; then
