@@ -14,7 +14,8 @@
  * be NULL. Lengths are numbers of elements.
  *
  * The library keeps nothing between calls, allocates nothing and writes only to the buffers it is lent, so threads may call it at the
- * same time on buffers of their own. A call takes less than IGB_STACK_BYTES of stack.
+ * same time on buffers of their own. A call takes less than IGB_STACK_BYTES of stack. The archive is for x86-64 Linux and asks for
+ * memcpy and memset alone.
  */
 #ifndef IGBEZOLUM_H
 #define IGBEZOLUM_H
@@ -77,7 +78,11 @@ enum {
     IGB_FORCED_OFF = 3
 };
 
-/* The columns of a log row, one row for each call of the search. */
+/*
+ * The columns of a log row. There is one row for each call of the search: column c of call k is log[IGB_LOG_ROW * (k - 1) + c].
+ * Candidates are the literals of the first model that are neither dropped (and so free) nor forced yet; a call takes a chunk of them
+ * and asks for a model in which one is false. If there is none, the whole chunk is forced.
+ */
 enum {
     IGB_LOG_CALL = 0,     /* its number, from 1 */
     IGB_LOG_END = 1,      /* how it ended: IGB_CALL_MODEL, IGB_CALL_NONE or IGB_CALL_STOPPED; 0 in a row that is not used */

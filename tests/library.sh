@@ -29,11 +29,20 @@ block() {
 }
 shown=$(block 2)
 
+# The header says that nothing is kept between calls and what the archive asks for.
+if has nm; then
+    others=$(nm "$archive" | awk '$(NF - 1) == "U" && $NF !~ /^mem(cpy|set)$/ || $(NF - 1) ~ /^[bBdDC]$/ {print $NF}')
+    [ -z "$others" ] || { echo "library: the archive has or asks for more than the header says:" $others; exit 1; }
+fi
+
 if has gcc; then
     strict=(-Wall -Wextra -Werror -pedantic -Iinclude)
     quietly "the header in C99" gcc -std=c99 "${strict[@]}" -fsyntax-only -x c include/igbezolum.h
-    has g++ && quietly "the header in C++" g++ "${strict[@]}" -fsyntax-only -x c++ include/igbezolum.h
     mkdir -p target/c
+    if has g++; then
+        quietly "compiling a C++ host" g++ "${strict[@]}" -o target/c/forced_cpp -x c++ examples/forced.c -x none "$archive"
+        [ "$(target/c/forced_cpp examples/surface_ring.cnf)" = "$shown" ] || { echo "library: a C++ host says something else"; exit 1; }
+    fi
     for name in interface threads stack; do
         quietly "compiling $name.c" gcc -std=c99 -O1 -g "${strict[@]}" -pthread -o "target/c/$name" "tests/c/$name.c" "$archive"
         "target/c/$name" || exit 1
@@ -48,6 +57,11 @@ if has gcc; then
         if ! said=$(bash -e -c "$(block 1)" 2>"$log") || [ -z "$shown" ] || [ "$said" != "$shown" ]; then
             cat "$log"
             printf 'library: the commands of README.md say\n%s\nand not what it shows\n' "$said"
+            exit 1
+        fi
+        said=$(dist/forced README.md 2>&1; echo $?; dist/forced examples/no_setup.cnf; echo $?; dist/forced 2>/dev/null; echo $?)
+        if [ "$said" != $'forced: refused 3 at byte 0\n1\nno setup is valid\n1\n2' ]; then
+            printf 'library: of a text that is no card, a card with no setup and no file the C host says\n%s\n' "$said"
             exit 1
         fi
         echo "library: the C host says what README.md shows"

@@ -30,11 +30,12 @@ fn edge_texts() -> Vec<Vec<u8>> {
     let ones = |n: usize| text_of(1, &[vec![1; n]]).into_bytes();
     let mut texts: Vec<Vec<u8>> = Vec::new();
     for text in [
-        "", "\n", "c", "c\n", "p", "p cnf", "p cnf 1", "p cnf 1 1", "p cnf 0 0", "p cnf 0 1\n0", "x", " p cnf 1 0", "p cnf 1 0 0", "p cnf 1 -1",
-        "pcnf 1 1", "p cnf 256 0", "p cnf 257 0", "p cnf 0 1025", "p cnf 999999999 999999999", "p cnf 1000000000 0", "p cnf 0000000001 0",
-        "p cnf 000000001 0", "p cnf 1 1\n-", "p cnf 1 1\n--1 0", "p cnf 1 1\n-0", "p cnf 1 1\n1 -00 0", "p cnf 1 1\n000000001 0",
-        "p cnf 1 1\n0000000001 0", "p cnf 1 1\n+1 0", "p cnf 1 1\n1 0 0", "p cnf 1 1\n1 0 %", "p cnf 1 1\n999999999 0", "p cnf 1 1\n1 0\nc",
-        "c p cnf 1 1\np cnf 1 2\r\n1 0\t0 ", "p cnf 1 1\r1 0", "p\tcnf\t1\t1\t\r\n1 0", "p cnf 2 1\n1 2 2 -1 0",
+        "", "\n", "c", "c\n", "p", "p cnf", "p cnf 1", "p cnf 1 1", "p cnf 0 0", "p cnf 0 1\n0", "x", " p cnf 1 0", "p cnf 1 0 0",
+        "p cnf 1 -1", "pcnf 1 1", "p cnf 256 0", "p cnf 257 0", "p cnf 0 1025", "p cnf 999999999 999999999", "p cnf 1000000000 0",
+        "p cnf 0000000001 0", "p cnf 000000001 0", "p cnf 1 1\n-", "p cnf 1 1\n--1 0", "p cnf 1 1\n-0", "p cnf 1 1\n1 -00 0",
+        "p cnf 1 1\n000000001 0", "p cnf 1 1\n0000000001 0", "p cnf 1 1\n+1 0", "p cnf 1 1\n1 0 0", "p cnf 1 1\n1 0 %",
+        "p cnf 1 1\n999999999 0", "p cnf 1 1\n1 0\nc", "c p cnf 1 1\np cnf 1 2\r\n1 0\t0 ", "p cnf 1 1\r1 0",
+        "p\tcnf\t1\t1\t\r\n1 0", "p cnf 2 1\n1 2 2 -1 0",
     ] {
         texts.push(text.as_bytes().to_vec());
     }
