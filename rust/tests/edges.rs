@@ -77,7 +77,7 @@ fn sizes_at_their_limits() {
     let text = format!("p cnf {VARS_MAX} {CLAUSES_MAX}\n{}", "-256 0\n".repeat(CLAUSES_MAX));
     let formula = read(text.as_bytes()).expect("256 variables and 1,024 clauses");
     assert_eq!(formula.clauses().count(), CLAUSES_MAX);
-    let run = formula.run(Limits { budget: u32::MAX, chunk_limit: 256 }).expect("so does its list");
+    let run = formula.run(Limits { budget: u32::MAX, chunk_limit: 256 }).expect("its list is not refused");
     assert_eq!(run.forced().collect::<Vec<_>>(), [(256, false)]);
     assert_eq!(run.status[..255], [Status::Free; 255]);
     assert_eq!(igbezolum::table(text.as_bytes()).lines().count(), VARS_MAX + 1);
