@@ -1,4 +1,4 @@
-//! The rules once more, in plain Rust and sharing no code with the crates: text to entries, the run, and the printed table.
+//! The rules once more (`rules.rs`), against the programs.
 //!
 //!   reference FILE...                    the table of each file, as the table program prints it
 //!   reference --named FILE...            the same, each behind the file's name, as the program vectors prints it
@@ -8,340 +8,17 @@
 //!                                        most 20 variables
 //!   reference --random PROGRAM SEED N    the same for N texts made from SEED: formulas, and texts with a byte or two changed
 
-use std::collections::BTreeSet;
+mod rules;
+mod texts;
+
 use std::env;
 use std::fmt::Write as _;
 use std::fs;
 use std::io::Write as _;
 use std::process::{Command, ExitCode, Stdio};
 
-const MAX_TEXT: usize = 32_768;
-const MAX_VARS: u64 = 256;
-const MAX_CLAUSES: u64 = 1_024;
-const MAX_ENTRIES: usize = 4_096;
-
-/// A refusal: its number and its place.
-type Refusal = (u32, usize);
-
-struct Formula {
-    vars: usize,
-    entries: Vec<i32>,
-}
-
-// ---- the text
-
-fn is_blank(b: u8) -> bool {
-    matches!(b, b' ' | b'\t' | b'\r' | b'\n')
-}
-
-/// 1 to 9 digits.
-fn digits(word: &[u8]) -> Option<u64> {
-    if word.is_empty() || word.len() > 9 || !word.iter().all(u8::is_ascii_digit) {
-        return None;
-    }
-    std::str::from_utf8(word).ok()?.parse().ok()
-}
-
-/// The header's two numbers, if the line is one.
-fn header(line: &[u8]) -> Option<(u64, u64)> {
-    let mut end = line.len();
-    while end > 0 && is_blank(line[end - 1]) {
-        end -= 1;
-    }
-    let line = &line[..end];
-    if line.first() != Some(&b'p') {
-        return None;
-    }
-    let words: Vec<&[u8]> = line.split(|&b| b == b' ' || b == b'\t').filter(|w| !w.is_empty()).collect();
-    match words[..] {
-        [b"p", b"cnf", vars, clauses] => Some((digits(vars)?, digits(clauses)?)),
-        _ => None,
-    }
-}
-
-fn read(text: &[u8]) -> Result<Formula, Refusal> {
-    if text.len() > MAX_TEXT {
-        return Err((2, MAX_TEXT));
-    }
-    let mut start = 0;
-    let (vars, clauses, mut at) = loop {
-        if start >= text.len() {
-            return Err((3, text.len()));
-        }
-        let end = text[start..].iter().position(|&b| b == b'\n').map_or(text.len(), |n| start + n);
-        let line = &text[start..end];
-        if line.iter().all(|&b| is_blank(b)) || line[0] == b'c' {
-            start = end + 1;
-            continue;
-        }
-        let Some((vars, clauses)) = header(line) else {
-            return Err((3, start));
-        };
-        if vars > MAX_VARS || clauses > MAX_CLAUSES {
-            return Err((4, start));
-        }
-        break (vars, clauses, end);
-    };
-    let mut entries = Vec::new();
-    let mut closed = 0;
-    loop {
-        while at < text.len() && is_blank(text[at]) {
-            at += 1;
-        }
-        if at >= text.len() {
-            break;
-        }
-        let from = at;
-        while at < text.len() && !is_blank(text[at]) {
-            at += 1;
-        }
-        let token = &text[from..at];
-        let (minus, word) = match token {
-            [b'-', rest @ ..] => (true, rest),
-            _ => (false, token),
-        };
-        let number = match digits(word) {
-            None => return Err((5, from)),
-            Some(0) if minus => return Err((5, from)),
-            Some(n) => n,
-        };
-        if closed == clauses {
-            return Err((6, from));
-        }
-        if number > vars {
-            return Err((7, from));
-        }
-        if entries.len() == MAX_ENTRIES {
-            return Err((8, from));
-        }
-        let value = number as i32;
-        entries.push(if minus { -value } else { value });
-        if number == 0 {
-            closed += 1;
-        }
-    }
-    if closed < clauses {
-        return Err((9, text.len()));
-    }
-    Ok(Formula { vars: vars as usize, entries })
-}
-
-// ---- the search
-
-type Clause = BTreeSet<i32>;
-type Values = Vec<Option<bool>>;
-
-fn clauses_of(entries: &[i32]) -> Vec<Clause> {
-    let mut all = Vec::new();
-    let mut one = Clause::new();
-    for &e in entries {
-        if e == 0 {
-            all.push(std::mem::take(&mut one));
-        } else {
-            one.insert(e);
-        }
-    }
-    all
-}
-
-fn value(values: &Values, l: i32) -> Option<bool> {
-    values[l.unsigned_abs() as usize - 1].map(|v| v == (l > 0))
-}
-
-/// False on a clash. Goes from the last clause to the first: the order is not to matter.
-fn close(clauses: &[Clause], values: &mut Values) -> bool {
-    loop {
-        let mut changed = false;
-        for clause in clauses.iter().rev() {
-            if clause.iter().any(|&l| value(values, l) == Some(true)) {
-                continue;
-            }
-            let mut unset = clause.iter().filter(|&&l| value(values, l).is_none());
-            match (unset.next(), unset.next()) {
-                (None, _) => return false,
-                (Some(&l), None) => {
-                    values[l.unsigned_abs() as usize - 1] = Some(l > 0);
-                    changed = true;
-                }
-                _ => {}
-            }
-        }
-        if !changed {
-            return true;
-        }
-    }
-}
-
-enum End {
-    Model(Vec<bool>),
-    None,
-    Stopped,
-}
-
-struct Meter {
-    budget: u64,
-    spent: u64,
-}
-
-fn go_on(clauses: &[Clause], mut values: Values, meter: &mut Meter) -> End {
-    if !close(clauses, &mut values) {
-        return End::None;
-    }
-    let Some(v) = values.iter().position(Option::is_none) else {
-        return End::Model(values.into_iter().map(Option::unwrap).collect());
-    };
-    for b in [false, true] {
-        if meter.spent == meter.budget {
-            return End::Stopped;
-        }
-        meter.spent += 1;
-        let mut tried = values.clone();
-        tried[v] = Some(b);
-        match go_on(clauses, tried, meter) {
-            End::None => {}
-            end => return end,
-        }
-    }
-    End::None
-}
-
-// ---- the run
-
-#[derive(Default)]
-struct Report {
-    answer: u32,
-    tries: u64,
-    status: Vec<u8>,
-    log: Vec<[u64; 6]>,
-}
-
-fn holds(clauses: &[Clause], model: &[bool]) -> bool {
-    clauses.iter().all(|c| c.iter().any(|&l| model[l.unsigned_abs() as usize - 1] == (l > 0)))
-}
-
-fn run(f: &Formula, budget: u64, limit: usize) -> Report {
-    let clauses = clauses_of(&f.entries);
-    let mut meter = Meter { budget, spent: 0 };
-    let mut r = Report { status: vec![0; f.vars], ..Report::default() };
-    let mut first: Vec<bool> = Vec::new();
-    let mut candidates: Vec<i32> = Vec::new();
-    let mut forced: Vec<i32> = Vec::new();
-    let mut size = 1;
-    let mut number = 0;
-    while number == 0 || !candidates.is_empty() {
-        number += 1;
-        let before = meter.spent;
-        let chunk: Vec<i32> = candidates.iter().copied().take(size).collect();
-        let mut call = clauses.clone();
-        if number > 1 {
-            call.extend(forced.iter().map(|&l| Clause::from([l])));
-            call.push(chunk.iter().map(|&l| -l).collect());
-        }
-        let end = go_on(&call, vec![None; f.vars], &mut meter);
-        let taken = chunk.len() as u64;
-        match end {
-            End::Model(model) => {
-                if number == 1 {
-                    first = model.clone();
-                    candidates = (1..=f.vars as i32).map(|v| if first[v as usize - 1] { v } else { -v }).collect();
-                }
-                let all = candidates.len();
-                candidates.retain(|&l| model[l.unsigned_abs() as usize - 1] == (l > 0));
-                let compared = candidates.len();
-                candidates.retain(|&l| {
-                    let mut other = model.clone();
-                    other[l.unsigned_abs() as usize - 1] = l < 0;
-                    !holds(&clauses, &other)
-                });
-                let flipped = candidates.len();
-                r.log.push([number, 1, taken, (all - compared) as u64, (compared - flipped) as u64, meter.spent - before]);
-                size = 1;
-            }
-            End::None => {
-                r.log.push([number, 2, taken, 0, 0, meter.spent - before]);
-                if number == 1 {
-                    r.answer = 20;
-                    r.tries = meter.spent;
-                    return r;
-                }
-                forced.extend(&chunk);
-                candidates.drain(..chunk.len());
-                size = (2 * size).min(limit);
-            }
-            End::Stopped => {
-                r.log.push([number, 3, taken, 0, 0, meter.spent - before]);
-                r.answer = 21;
-                break;
-            }
-        }
-    }
-    r.tries = meter.spent;
-    if !first.is_empty() || f.vars == 0 {
-        r.status = vec![1; f.vars];
-        for &l in &candidates {
-            r.status[l.unsigned_abs() as usize - 1] = 0;
-        }
-        for &l in &forced {
-            r.status[l.unsigned_abs() as usize - 1] = if l > 0 { 2 } else { 3 };
-        }
-    }
-    r
-}
-
-// ---- the table
-
-fn table(text: &[u8]) -> String {
-    let f = match read(text) {
-        Err((number, place)) => return format!("refused {number} place {place}\n"),
-        Ok(f) => f,
-    };
-    let r = run(&f, 1_000_000, 16);
-    let forced = r.status.iter().filter(|&&s| s >= 2).count();
-    let free = r.status.iter().filter(|&&s| s == 1).count();
-    let mut out = format!(
-        "answer {} calls {} tries {} forced {forced} free {free} open {}\n",
-        r.answer,
-        r.log.len(),
-        r.tries,
-        f.vars - forced - free
-    );
-    if r.answer != 20 {
-        for (i, s) in r.status.iter().enumerate() {
-            let word = ["open", "free", "forced on", "forced off"][*s as usize];
-            writeln!(out, "{} {word}", i + 1).expect("a string takes every byte");
-        }
-    }
-    out
-}
-
-/// Forced and free by the published definition, from all models: the lines behind the table's first one.
-fn known(f: &Formula) -> Option<String> {
-    if f.vars > 20 {
-        return None;
-    }
-    let clauses = clauses_of(&f.entries);
-    let (mut ever_on, mut ever_off, mut models) = (0u32, 0u32, 0u32);
-    for bits in 0..1u32 << f.vars {
-        let model: Vec<bool> = (0..f.vars).map(|i| bits >> i & 1 == 1).collect();
-        if holds(&clauses, &model) {
-            models += 1;
-            ever_on |= bits;
-            ever_off |= !bits;
-        }
-    }
-    let mut out = String::new();
-    if models > 0 {
-        for i in 0..f.vars {
-            let word = match (ever_on >> i & 1, ever_off >> i & 1) {
-                (1, 1) => "free",
-                (1, 0) => "forced on",
-                _ => "forced off",
-            };
-            writeln!(out, "{} {word}", i + 1).expect("a string takes every byte");
-        }
-    }
-    Some(out)
-}
+use rules::{by_models, clauses_of, read, run_of, status_lines, table, Formula};
+use texts::{random_text, text_of, Random};
 
 // ---- against the program
 
@@ -363,7 +40,8 @@ fn difference(program: &str, text: &[u8]) -> Option<String> {
         return Some(format!("expected\n{expected}but it printed\n{got}"));
     }
     if let Ok(f) = read(text) {
-        if let Some(lines) = known(&f) {
+        if f.vars <= 20 {
+            let lines = by_models(f.vars, &clauses_of(&f.entries)).map_or(String::new(), |status| status_lines(&status));
             if !got.starts_with("answer 21 ") && !got.ends_with(&format!("\n{lines}")) {
                 return Some(format!("all models say\n{lines}but it printed\n{got}"));
             }
@@ -376,7 +54,7 @@ fn difference(program: &str, text: &[u8]) -> Option<String> {
 
 fn is_satisfiable(solver: &str, f: &Formula, unit: i32) -> std::io::Result<bool> {
     let clauses = clauses_of(&f.entries);
-    let mut text = format!("p cnf {} {}\n", f.vars, clauses.len() + usize::from(unit != 0));
+    let mut text = format!("p cnf {} {}\n", f.vars, f.clauses + usize::from(unit != 0));
     for c in &clauses {
         for l in c {
             write!(text, "{l} ").expect("a string takes every byte");
@@ -398,7 +76,7 @@ fn is_satisfiable(solver: &str, f: &Formula, unit: i32) -> std::io::Result<bool>
 /// Where the solver and the run do not agree on a text that is accepted and not stopped.
 fn solver_difference(solver: &str, text: &[u8]) -> std::io::Result<Option<String>> {
     let Ok(f) = read(text) else { return Ok(None) };
-    let r = run(&f, 1_000_000, 16);
+    let r = run_of(&f);
     if is_satisfiable(solver, &f, 0)? == (r.answer == 20) {
         return Ok(Some(format!("answer {}", r.answer)));
     }
@@ -431,17 +109,6 @@ fn against_solver(solver: &str, texts: &[(String, Vec<u8>)]) -> std::io::Result<
 }
 
 // ---- families
-
-fn text_of(vars: i32, clauses: &[Vec<i32>]) -> String {
-    let mut text = format!("p cnf {vars} {}\n", clauses.len());
-    for c in clauses {
-        for l in c {
-            write!(text, "{l} ").expect("a string takes every byte");
-        }
-        text.push_str("0\n");
-    }
-    text
-}
 
 fn at_most_one(vars: &[i32]) -> Vec<Vec<i32>> {
     let mut clauses = Vec::new();
@@ -504,53 +171,7 @@ fn families(folder: &str) -> std::io::Result<ExitCode> {
     }
     Ok(ExitCode::SUCCESS)
 }
-
 // ---- texts at random
-
-struct Random(u64);
-
-impl Random {
-    fn below(&mut self, n: u64) -> u64 {
-        self.0 ^= self.0 << 13;
-        self.0 ^= self.0 >> 7;
-        self.0 ^= self.0 << 17;
-        self.0.wrapping_mul(0x2545_F491_4F6C_DD1D) % n
-    }
-}
-
-fn random_text(r: &mut Random) -> Vec<u8> {
-    let most = if r.below(8) == 0 { 40 } else { 12 };
-    let vars = r.below(most);
-    let clauses = r.below(4 * vars + 3);
-    let mut text = String::new();
-    if r.below(4) == 0 {
-        text.push_str("c a comment\n \t\n");
-    }
-    write!(text, "p cnf {vars} {clauses}\n").expect("a string takes every byte");
-    for _ in 0..clauses {
-        // some clauses are empty, of one literal, of one literal twice, of both signs
-        for _ in 0..if vars == 0 { 0 } else { r.below(4) + u64::from(r.below(20) > 0) } {
-            let sign = if r.below(2) == 0 { "-" } else { "" };
-            write!(text, "{sign}{} ", 1 + r.below(vars)).expect("a string takes every byte");
-        }
-        text.push_str(if r.below(3) == 0 { "0\n" } else { "0 " });
-    }
-    let mut text = text.into_bytes();
-    if r.below(3) == 0 {
-        for _ in 0..=r.below(2) {
-            let at = r.below(text.len() as u64) as usize;
-            match r.below(3) {
-                0 => text[at] = b"0123456789- \t\r\npcnfx\0\xff"[r.below(21) as usize],
-                1 => text.insert(at, b"0123456789- \t\r\npcnfx\0\xff"[r.below(21) as usize]),
-                _ => {
-                    text.remove(at);
-                }
-            }
-        }
-    }
-    text
-}
-
 fn files_of(names: &[String]) -> std::io::Result<Vec<(String, Vec<u8>)>> {
     names.iter().map(|n| Ok((n.clone(), fs::read(n)?))).collect()
 }
@@ -576,7 +197,7 @@ fn main() -> ExitCode {
                 return ExitCode::FAILURE;
             };
             println!("seed {seed}");
-            let mut r = Random(seed.wrapping_mul(2).wrapping_add(0x9E37_79B9_7F4A_7C15));
+            let mut r = Random::of_seed(seed);
             let texts: Vec<_> = (0..n)
                 .map(|i| {
                     let text = random_text(&mut r);

@@ -1,0 +1,152 @@
+/*
+ * Igbezolum: which switches of a card's rules are forced, and which are free.
+ *
+ * A card's rules are a DIMACS CNF text, one variable a switch. A valid setup (a model) gives every switch a value so that every
+ * clause has a true literal. A switch is forced on or off if it has this value in every valid setup, and there is one; it is free if
+ * it has both values in valid setups.
+ *
+ *     igb_read     the text to a list of entries
+ *     igb_run      the list to a status for each switch, and a log of the run
+ *     igb_table    the text to the printed table, as the program `table` prints it
+ *
+ * Every input is answered: what is wrong is refused with a number and a place, and nothing is undefined but what C itself asks for.
+ * A pointer is valid for the length behind it, and a buffer that is written overlaps no other argument. With length 0 a pointer may
+ * be NULL. Lengths are numbers of elements.
+ *
+ * The library keeps nothing between calls, allocates nothing and writes only to the buffers it is lent, so threads may call it at the
+ * same time on buffers of their own. A call takes less than IGB_STACK_BYTES of stack. The archive is for x86-64 Linux and asks for
+ * memcpy and memset alone.
+ */
+#ifndef IGBEZOLUM_H
+#define IGBEZOLUM_H
+
+#include <stddef.h>
+#include <stdint.h>
+
+#ifdef __cplusplus
+extern "C" {
+#endif
+
+/* ---- sizes */
+
+#define IGB_TEXT_MAX 32768    /* bytes of a text */
+#define IGB_VARS_MAX 256      /* variables, numbered from 1 */
+#define IGB_CLAUSES_MAX 1024  /* clauses */
+#define IGB_ENTRIES_MAX 4096  /* entries of a list: literals and the 0 that closes each clause */
+#define IGB_CHUNK_MAX 256     /* largest chunk limit; the smallest is 1 */
+#define IGB_LOG_ROW 6         /* numbers of a log row */
+
+/* Buffers that are long enough for every formula, in elements. The first and the last are also the least that is taken. */
+#define IGB_ENTRIES_LEN 4096  /* int32_t, for igb_read */
+#define IGB_STATUS_LEN 256    /* uint8_t, for igb_run */
+#define IGB_LOG_LEN 1542      /* uint32_t, for igb_run: a row for each variable and one more */
+#define IGB_TABLE_LEN 4096    /* uint8_t, for igb_table */
+
+#define IGB_STACK_BYTES 524288 /* stack that is enough for every call */
+
+/* What the program `table`, and so igb_table, gives to the run. */
+#define IGB_TABLE_BUDGET 1000000
+#define IGB_TABLE_CHUNK 16
+
+/* ---- numbers */
+
+/* The answer of a reading or a run. Places and indices count from 0; the place of 0, 1, 10, 20 and 21 is 0. */
+enum {
+    IGB_OK = 0,                /* the text is accepted; the run is settled and there is a valid setup */
+    IGB_SHORT_BUFFER = 1,      /* a lent buffer is too short */
+    IGB_LONG_TEXT = 2,         /* the text has over IGB_TEXT_MAX bytes; place IGB_TEXT_MAX */
+    IGB_BAD_HEADER = 3,        /* the header is missing or malformed; place: start of that line, or text length */
+    IGB_LARGE_HEADER = 4,      /* the header is over IGB_VARS_MAX or IGB_CLAUSES_MAX; place: start of its line */
+    IGB_BAD_TOKEN = 5,         /* a malformed token; here and in the next three the place is its first byte */
+    IGB_TOKEN_BEHIND = 6,      /* a token after the last clause */
+    IGB_TOKEN_OVER_VARS = 7,   /* a variable above the header's number */
+    IGB_MANY_TOKENS = 8,       /* one entry more than IGB_ENTRIES_MAX */
+    IGB_SHORT_TEXT = 9,        /* the text ends inside a clause or before the last one; place: text length */
+    IGB_BAD_LIMITS = 10,       /* run: over IGB_VARS_MAX variables, or a chunk limit of 0 or over IGB_CHUNK_MAX */
+    IGB_BAD_LIST = 11,         /* run: list over IGB_ENTRIES_MAX (place IGB_ENTRIES_MAX), not ended by 0 (its length), or with
+                                  more than IGB_CLAUSES_MAX zeros (index of the first one too many) */
+    IGB_ENTRY_OVER_VARS = 12,  /* run: a variable above vars; place: index of the first */
+    IGB_NO_MODEL = 20,         /* there is no valid setup */
+    IGB_STOPPED = 21           /* the budget stopped the run; what is marked holds */
+};
+
+/* The status of a variable. */
+enum {
+    IGB_OPEN = 0,
+    IGB_FREE = 1,
+    IGB_FORCED_ON = 2,
+    IGB_FORCED_OFF = 3
+};
+
+/*
+ * The columns of a log row. There is one row for each call of the search: column c of call k is log[IGB_LOG_ROW * (k - 1) + c].
+ * Candidates are the literals of the first model that are neither dropped (and so free) nor forced yet; a call takes a chunk of them
+ * and asks for a model in which one is false. If there is none, the whole chunk is forced.
+ */
+enum {
+    IGB_LOG_CALL = 0,     /* its number, from 1 */
+    IGB_LOG_END = 1,      /* how it ended: IGB_CALL_MODEL, IGB_CALL_NONE or IGB_CALL_STOPPED; 0 in a row that is not used */
+    IGB_LOG_CHUNK = 2,    /* candidates taken; 0 in call 1 */
+    IGB_LOG_COMPARED = 3, /* candidates dropped since the model gives their variable another value */
+    IGB_LOG_FLIPPED = 4,  /* candidates dropped since their variable may be flipped in the model */
+    IGB_LOG_TRIES = 5     /* tries of this call */
+};
+
+enum {
+    IGB_CALL_MODEL = 1,
+    IGB_CALL_NONE = 2,
+    IGB_CALL_STOPPED = 3
+};
+
+/* ---- calls */
+
+typedef struct {
+    uint32_t answer;
+    uint32_t place;
+    uint32_t vars;    /* variables, clauses and entries; all 0 if the text is refused */
+    uint32_t clauses;
+    uint32_t count;
+} igb_reading;
+
+typedef struct {
+    uint32_t answer;
+    uint32_t place;
+    uint32_t calls;  /* calls begun, which is rows of the log; this and the rest are 0 if the run is refused */
+    uint32_t tries;  /* at most the budget */
+    uint32_t forced; /* variables marked forced, on or off */
+    uint32_t free;   /* variables marked free; vars less both are open */
+} igb_report;
+
+/*
+ * Reads a text. Its entries are the literals of clause 1 and a 0, those of clause 2 and a 0, and so on.
+ *
+ * Refused with IGB_SHORT_BUFFER (entries_len below IGB_ENTRIES_LEN) or IGB_LONG_TEXT it writes nothing. Otherwise it writes the
+ * first IGB_ENTRIES_LEN entries: the list and then zeros, or zeros alone if the text is refused. A longer buffer keeps its rest.
+ */
+igb_reading igb_read(const uint8_t *text, size_t text_len, int32_t *entries, size_t entries_len);
+
+/*
+ * Runs on a list of `vars` variables: `entries` with the count that igb_read returned as `entries_len`, or a list of the caller's own.
+ * `budget` is how many tries of a value the whole run may take; `chunk_limit` is how many candidates one call may take at most. The
+ * limit changes the number of calls and tries, and never a settled status.
+ *
+ * A refused run writes nothing: IGB_BAD_LIMITS, IGB_SHORT_BUFFER (status_len below vars, or log_len below
+ * IGB_LOG_ROW * (vars + 1)), IGB_BAD_LIST, IGB_ENTRY_OVER_VARS, in that order. Otherwise it writes the first `vars` bytes of
+ * `status`, that of variable v at v - 1, and the first IGB_LOG_ROW * (vars + 1) numbers of `log`: the rows, then zeros. Longer
+ * buffers keep their rest. After IGB_NO_MODEL every status is IGB_OPEN and the log has one row.
+ */
+igb_report igb_run(const int32_t *entries, size_t entries_len, uint32_t vars, uint32_t budget, uint32_t chunk_limit,
+                   uint8_t *status, size_t status_len, uint32_t *log, size_t log_len);
+
+/*
+ * Puts the table of a text at the start of `out` and returns its length in bytes: lines ended by LF, with no 0 behind them. Nothing
+ * is written behind the table. If out_len is below IGB_TABLE_LEN nothing is written and 0 is returned; no table is longer. A text
+ * that is refused has the table "refused N place P".
+ */
+size_t igb_table(const uint8_t *text, size_t text_len, uint8_t *out, size_t out_len);
+
+#ifdef __cplusplus
+}
+#endif
+
+#endif

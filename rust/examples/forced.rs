@@ -1,0 +1,19 @@
+//! Which switches of a card's rules are forced: `cargo run --example forced -- ../examples/surface_ring.cnf`.
+
+use igbezolum::{read, End, Limits};
+use std::error::Error;
+use std::{env, fs};
+
+fn main() -> Result<(), Box<dyn Error>> {
+    let name = env::args().nth(1).ok_or("it needs the name of a file")?;
+    let run = read(&fs::read(name)?)?.run(Limits::default())?;
+    for (switch, on) in run.forced() {
+        println!("switch {switch} is always {}", if on { "on" } else { "off" });
+    }
+    match run.end {
+        End::Settled => {}
+        End::NoModel => println!("no setup is valid"),
+        End::Stopped => println!("stopped by the budget: other switches may be forced too"),
+    }
+    Ok(())
+}

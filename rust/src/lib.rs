@@ -1,0 +1,102 @@
+//! Which switches of a card's rules are forced, and which are free.
+//!
+//! A card's rules are a DIMACS CNF text, one variable a switch. [`read`] takes the text, [`Formula::run`] works out the status of every
+//! switch, and [`table`] prints it as the program `table` does. What breaks the rules is refused: [`Refusal`] says by which rule and
+//! where. The answers are those of a proved library, which this crate links; [`raw`] has its functions as they are.
+//!
+//! ```
+//! use igbezolum::{read, End, Limits, Status};
+//!
+//! let card = read(b"p cnf 2 2\n1 2 0 1 -2 0\n")?;
+//! let run = card.run(Limits::default())?;
+//! assert_eq!(run.end, End::Settled);
+//! assert_eq!(run.status, [Status::ForcedOn, Status::Free]);
+//! assert_eq!(run.forced().collect::<Vec<_>>(), [(1, true)]);
+//! # Ok::<(), igbezolum::Refusal>(())
+//! ```
+
+#![deny(missing_docs, unsafe_code)]
+
+#[allow(unsafe_code)]
+pub mod raw;
+mod refusal;
+mod run;
+
+pub use refusal::Refusal;
+pub use run::{CallEnd, End, Limits, LogRow, Run, Status};
+
+/// Bytes of a text, at most.
+pub const TEXT_MAX: usize = 32_768;
+/// Variables, at most.
+pub const VARS_MAX: usize = 256;
+/// Clauses, at most.
+pub const CLAUSES_MAX: usize = 1_024;
+/// Entries of a list, at most: literals and the 0 that closes each clause.
+pub const ENTRIES_MAX: usize = 4_096;
+/// Bytes of a printed table, at most.
+pub const TABLE_MAX: usize = 4_096;
+
+/// A formula: variables 1 to [`vars`](Formula::vars), and the clauses as a list in which a 0 closes each.
+#[derive(Clone, Debug, PartialEq, Eq)]
+pub struct Formula {
+    vars: u32,
+    entries: Vec<i32>,
+}
+
+/// Reads a DIMACS CNF text.
+///
+/// # Errors
+/// Refusals 2 to 9, where the text breaks the rules.
+pub fn read(text: &[u8]) -> Result<Formula, Refusal> {
+    let mut entries = vec![0; ENTRIES_MAX];
+    let reading = raw::read(text, &mut entries);
+    match Refusal::of(reading.answer, reading.place) {
+        Some(refusal) => Err(refusal),
+        None => {
+            entries.truncate(reading.count as usize);
+            Ok(Formula { vars: reading.vars, entries })
+        }
+    }
+}
+
+/// The table of a text: one line of numbers and one for each variable, or `refused N place P`. The run has [`Limits::default`].
+#[must_use]
+pub fn table(text: &[u8]) -> String {
+    let mut out = vec![0; TABLE_MAX];
+    let length = raw::table(text, &mut out);
+    out.truncate(length);
+    String::from_utf8(out).expect("a table is ASCII")
+}
+
+impl Formula {
+    /// A formula of the caller's own list. Nothing is looked at here: [`run`](Formula::run) refuses a list that breaks the rules.
+    #[must_use]
+    pub fn new(vars: u32, entries: Vec<i32>) -> Formula {
+        Formula { vars, entries }
+    }
+
+    /// How many variables there are.
+    #[must_use]
+    pub fn vars(&self) -> u32 {
+        self.vars
+    }
+
+    /// The clauses, each without its closing 0.
+    pub fn clauses(&self) -> impl Iterator<Item = &[i32]> {
+        self.entries.split_inclusive(|&e| e == 0).map(|clause| clause.strip_suffix(&[0]).unwrap_or(clause))
+    }
+
+    /// The list: literals, and a 0 behind each clause.
+    #[must_use]
+    pub fn entries(&self) -> &[i32] {
+        &self.entries
+    }
+
+    /// Works out which variables are forced and which are free.
+    ///
+    /// # Errors
+    /// Refusals 10 to 12: limits that are not allowed, or a list of the caller's own that breaks the rules.
+    pub fn run(&self, limits: Limits) -> Result<Run, Refusal> {
+        run::run(self, limits)
+    }
+}

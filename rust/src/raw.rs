@@ -1,0 +1,79 @@
+//! The C functions on buffers that the caller owns, with the numbers of `include/igbezolum.h` as they are. All `unsafe` of this crate
+//! is here: each function hands the pointers and lengths of its slices over to one call.
+
+/// What [`read`] answers; `include/igbezolum.h` has the same as `igb_reading`.
+#[repr(C)]
+#[derive(Clone, Copy, Debug, PartialEq, Eq)]
+pub struct Reading {
+    /// 0 if the text is accepted, else the number of the refusal.
+    pub answer: u32,
+    /// The byte of a refusal.
+    pub place: u32,
+    /// Variables of the header; this and the rest are 0 if the text is refused.
+    pub vars: u32,
+    /// Clauses of the header.
+    pub clauses: u32,
+    /// Entries of the list.
+    pub count: u32,
+}
+
+/// What [`run`] answers; `include/igbezolum.h` has the same as `igb_report`.
+#[repr(C)]
+#[derive(Clone, Copy, Debug, PartialEq, Eq)]
+pub struct Report {
+    /// 0 settled, 20 no model, 21 stopped, else the number of the refusal.
+    pub answer: u32,
+    /// The index of a refusal.
+    pub place: u32,
+    /// Calls begun; this and the rest are 0 if the run is refused.
+    pub calls: u32,
+    /// Tries taken.
+    pub tries: u32,
+    /// Variables marked forced.
+    pub forced: u32,
+    /// Variables marked free.
+    pub free: u32,
+}
+
+mod c {
+    use super::{Reading, Report};
+
+    extern "C" {
+        pub fn igb_read(text: *const u8, text_len: usize, entries: *mut i32, entries_len: usize) -> Reading;
+        pub fn igb_run(
+            entries: *const i32,
+            entries_len: usize,
+            vars: u32,
+            budget: u32,
+            chunk_limit: u32,
+            status: *mut u8,
+            status_len: usize,
+            log: *mut u32,
+            log_len: usize,
+        ) -> Report;
+        pub fn igb_table(text: *const u8, text_len: usize, out: *mut u8, out_len: usize) -> usize;
+    }
+}
+
+// In all three: the C functions ask for pointers that are valid for their lengths and for written buffers that overlap no other
+// argument. Slices are that, and a `&mut` one overlaps nothing. The functions keep no pointer, and every input is answered.
+
+/// Reads a text. With 4,096 entries or more the first 4,096 are written: the list and then zeros; with fewer, or after 2, nothing is.
+pub fn read(text: &[u8], entries: &mut [i32]) -> Reading {
+    // SAFETY: as said above.
+    unsafe { c::igb_read(text.as_ptr(), text.len(), entries.as_mut_ptr(), entries.len()) }
+}
+
+/// Runs on a list. If it is not refused, the first `vars` statuses and the first `6 * (vars + 1)` log numbers are written.
+pub fn run(entries: &[i32], vars: u32, budget: u32, chunk_limit: u32, status: &mut [u8], log: &mut [u32]) -> Report {
+    let (s, l) = (status.as_mut_ptr(), log.as_mut_ptr());
+    // SAFETY: as said above.
+    unsafe { c::igb_run(entries.as_ptr(), entries.len(), vars, budget, chunk_limit, s, status.len(), l, log.len()) }
+}
+
+/// Puts the table of a text at the start of a buffer and answers its length; 0, and nothing is written, if there is no room for 4,096
+/// bytes.
+pub fn table(text: &[u8], out: &mut [u8]) -> usize {
+    // SAFETY: as said above.
+    unsafe { c::igb_table(text.as_ptr(), text.len(), out.as_mut_ptr(), out.len()) }
+}

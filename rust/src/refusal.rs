@@ -1,0 +1,145 @@
+//! What is refused, by which rule and where.
+
+use std::error::Error;
+use std::fmt;
+
+/// A refusal, one variant for each rule. Bytes and indices count from 0.
+#[derive(Clone, Copy, Debug, PartialEq, Eq, Hash)]
+pub enum Refusal {
+    /// 1: a lent buffer is too short. Only the functions of [`raw`](crate::raw) are lent buffers.
+    ShortBuffer,
+    /// 2: the text has over 32,768 bytes.
+    LongText,
+    /// 3: the header is missing or malformed.
+    BadHeader {
+        /// Start of that line, or the text's length if there is none.
+        byte: usize,
+    },
+    /// 4: the header is over 256 variables or 1,024 clauses.
+    LargeHeader {
+        /// Start of its line.
+        byte: usize,
+    },
+    /// 5: a malformed token.
+    BadToken {
+        /// Its first byte.
+        byte: usize,
+    },
+    /// 6: a token after the last clause.
+    TokenBehind {
+        /// Its first byte.
+        byte: usize,
+    },
+    /// 7: a variable above the header's number.
+    TokenOverVars {
+        /// Its first byte.
+        byte: usize,
+    },
+    /// 8: the 4,097th entry.
+    ManyTokens {
+        /// Its first byte.
+        byte: usize,
+    },
+    /// 9: the text ends inside a clause or before the last one.
+    ShortText {
+        /// The text's length.
+        byte: usize,
+    },
+    /// 10: over 256 variables, or a chunk limit of 0 or over 256.
+    BadLimits,
+    /// 11: a list of over 4,096 entries, not ended by 0, or with a 1,025th zero.
+    BadList {
+        /// 4,096; or the list's length; or the index of that zero.
+        index: usize,
+    },
+    /// 12: a variable above the formula's number.
+    EntryOverVars {
+        /// The index of the first one.
+        index: usize,
+    },
+}
+
+use Refusal::{
+    BadHeader, BadLimits, BadList, BadToken, EntryOverVars, LargeHeader, LongText, ManyTokens, ShortBuffer, ShortText, TokenBehind,
+    TokenOverVars,
+};
+
+impl Refusal {
+    /// The refusal of an answer and its place; none if the answer is no refusal.
+    #[must_use]
+    pub fn of(answer: u32, place: u32) -> Option<Refusal> {
+        let (byte, index) = (place as usize, place as usize);
+        Some(match answer {
+            1 => ShortBuffer,
+            2 => LongText,
+            3 => BadHeader { byte },
+            4 => LargeHeader { byte },
+            5 => BadToken { byte },
+            6 => TokenBehind { byte },
+            7 => TokenOverVars { byte },
+            8 => ManyTokens { byte },
+            9 => ShortText { byte },
+            10 => BadLimits,
+            11 => BadList { index },
+            12 => EntryOverVars { index },
+            _ => return None,
+        })
+    }
+
+    /// The number of the rule, 1 to 12.
+    #[must_use]
+    pub fn number(self) -> u32 {
+        match self {
+            ShortBuffer => 1,
+            LongText => 2,
+            BadHeader { .. } => 3,
+            LargeHeader { .. } => 4,
+            BadToken { .. } => 5,
+            TokenBehind { .. } => 6,
+            TokenOverVars { .. } => 7,
+            ManyTokens { .. } => 8,
+            ShortText { .. } => 9,
+            BadLimits => 10,
+            BadList { .. } => 11,
+            EntryOverVars { .. } => 12,
+        }
+    }
+
+    /// The place: a byte of the text (2 to 9), an index of the list (11, 12), else 0.
+    #[must_use]
+    pub fn place(self) -> usize {
+        match self {
+            ShortBuffer | BadLimits => 0,
+            LongText => crate::TEXT_MAX,
+            BadHeader { byte }
+            | LargeHeader { byte }
+            | BadToken { byte }
+            | TokenBehind { byte }
+            | TokenOverVars { byte }
+            | ManyTokens { byte }
+            | ShortText { byte } => byte,
+            BadList { index } | EntryOverVars { index } => index,
+        }
+    }
+}
+
+impl fmt::Display for Refusal {
+    fn fmt(&self, f: &mut fmt::Formatter<'_>) -> fmt::Result {
+        let what = match self {
+            ShortBuffer => "a lent buffer is too short",
+            LongText => "the text has over 32,768 bytes",
+            BadHeader { .. } => "the header is missing or malformed",
+            LargeHeader { .. } => "the header is over 256 variables or 1,024 clauses",
+            BadToken { .. } => "a malformed token",
+            TokenBehind { .. } => "a token after the last clause",
+            TokenOverVars { .. } | EntryOverVars { .. } => "a variable above the number of variables",
+            ManyTokens { .. } => "the 4,097th entry",
+            ShortText { .. } => "the text ends inside a clause or before the last one",
+            BadLimits => "over 256 variables, or a chunk limit of 0 or over 256",
+            BadList { .. } => "the list is too long, not ended by 0, or has a 1,025th zero",
+        };
+        write!(f, "refused {} place {}: {what}", self.number(), self.place())
+    }
+}
+
+impl Error for Refusal {}

@@ -1,0 +1,144 @@
+//! The run and what comes back.
+
+use crate::{raw, Formula, Refusal, VARS_MAX};
+
+/// Numbers of a log row.
+const ROW: usize = 6;
+
+/// What a run may spend.
+#[derive(Clone, Copy, Debug, PartialEq, Eq)]
+pub struct Limits {
+    /// Tries of a value that the whole run may take.
+    pub budget: u32,
+    /// Candidates that one call may take at most, 1 to 256.
+    pub chunk_limit: u32,
+}
+
+/// A budget of 1,000,000 and a chunk limit of 16, which the table is made with.
+impl Default for Limits {
+    fn default() -> Limits {
+        Limits { budget: 1_000_000, chunk_limit: 16 }
+    }
+}
+
+/// How a run ended.
+#[derive(Clone, Copy, Debug, PartialEq, Eq, Hash)]
+pub enum End {
+    /// There is a model, and every variable is forced or free.
+    Settled,
+    /// There is no model; every status is open.
+    NoModel,
+    /// The budget ended the run; what is marked forced or free is so.
+    Stopped,
+}
+
+/// The status of a variable.
+#[derive(Clone, Copy, Debug, PartialEq, Eq, Hash)]
+pub enum Status {
+    /// Not settled.
+    Open,
+    /// Models differ on it.
+    Free,
+    /// True in every model, and there is one.
+    ForcedOn,
+    /// False in every model, and there is one.
+    ForcedOff,
+}
+
+/// How a call of the search ended.
+#[derive(Clone, Copy, Debug, PartialEq, Eq, Hash)]
+pub enum CallEnd {
+    /// With a model.
+    Model,
+    /// There is none.
+    NoModel,
+    /// The budget was spent.
+    Stopped,
+}
+
+/// What the log says of one call. Calls are numbered from 1 in its order.
+#[derive(Clone, Copy, Debug, PartialEq, Eq)]
+pub struct LogRow {
+    /// How it ended.
+    pub end: CallEnd,
+    /// Candidates taken; 0 in call 1.
+    pub chunk: u32,
+    /// Candidates dropped since the model gives their variable another value.
+    pub compared: u32,
+    /// Candidates dropped since their variable may be flipped in the model.
+    pub flipped: u32,
+    /// Tries of this call.
+    pub tries: u32,
+}
+
+/// A run that was not refused.
+#[derive(Clone, Debug, PartialEq, Eq)]
+pub struct Run {
+    /// How it ended.
+    pub end: End,
+    /// Tries taken, within the budget.
+    pub tries: u32,
+    /// The status of each variable; that of variable v is at v - 1.
+    pub status: Vec<Status>,
+    /// One row for each call begun.
+    pub log: Vec<LogRow>,
+}
+
+impl Run {
+    /// The forced variables in order, each with its value.
+    pub fn forced(&self) -> impl Iterator<Item = (u32, bool)> + '_ {
+        (1..).zip(&self.status).filter_map(|(v, status)| match status {
+            Status::ForcedOn => Some((v, true)),
+            Status::ForcedOff => Some((v, false)),
+            Status::Open | Status::Free => None,
+        })
+    }
+
+    /// The free variables in order.
+    pub fn free(&self) -> impl Iterator<Item = u32> + '_ {
+        (1..).zip(&self.status).filter(|(_, &status)| status == Status::Free).map(|(v, _)| v)
+    }
+}
+
+fn status_of(number: u8) -> Status {
+    match number {
+        0 => Status::Open,
+        1 => Status::Free,
+        2 => Status::ForcedOn,
+        3 => Status::ForcedOff,
+        _ => unreachable!("no status {number}"),
+    }
+}
+
+fn row_of(row: &[u32]) -> LogRow {
+    let &[_, end, chunk, compared, flipped, tries] = row else { unreachable!("a row has six numbers") };
+    let end = match end {
+        1 => CallEnd::Model,
+        2 => CallEnd::NoModel,
+        3 => CallEnd::Stopped,
+        _ => unreachable!("no call ends with {end}"),
+    };
+    LogRow { end, chunk, compared, flipped, tries }
+}
+
+pub fn run(formula: &Formula, limits: Limits) -> Result<Run, Refusal> {
+    // long enough for every formula that is not refused
+    let mut status = [0; VARS_MAX];
+    let mut log = [0; ROW * (VARS_MAX + 1)];
+    let report = raw::run(formula.entries(), formula.vars(), limits.budget, limits.chunk_limit, &mut status, &mut log);
+    if let Some(refusal) = Refusal::of(report.answer, report.place) {
+        return Err(refusal);
+    }
+    let end = match report.answer {
+        0 => End::Settled,
+        20 => End::NoModel,
+        21 => End::Stopped,
+        other => unreachable!("no answer {other}"),
+    };
+    Ok(Run {
+        end,
+        tries: report.tries,
+        status: status[..formula.vars() as usize].iter().map(|&s| status_of(s)).collect(),
+        log: log.chunks(ROW).take(report.calls as usize).map(row_of).collect(),
+    })
+}

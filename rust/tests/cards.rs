@@ -1,0 +1,110 @@
+//! The cards of `examples/` and the small formulas of the rules, through the wrapper.
+
+use igbezolum::{read, table, CallEnd, End, Formula, Limits, LogRow, Run, Status};
+use std::fs;
+use std::thread;
+
+fn card(name: &str) -> Vec<u8> {
+    fs::read(format!("{}/../examples/{name}.cnf", env!("CARGO_MANIFEST_DIR"))).expect("the card is there")
+}
+
+fn run_of(text: &[u8]) -> Run {
+    read(text).expect("the card keeps the rules").run(Limits::default()).expect("so does its list")
+}
+
+#[test]
+fn copy_before_release_is_forced() {
+    let run = run_of(&card("surface_ring"));
+    assert_eq!(run.end, End::Settled);
+    assert_eq!(run.forced().collect::<Vec<_>>(), [(1, true), (2, true), (10, false)]);
+    assert_eq!(run.free().collect::<Vec<_>>(), [3, 4, 5, 6, 7, 8, 9, 11, 12]);
+}
+
+#[test]
+fn an_encoder_with_ten_bits() {
+    let forced: Vec<_> = run_of(&card("encoder")).forced().collect();
+    assert_eq!(forced, [(1, false), (2, true), (3, false), (9, true), (11, false)]);
+}
+
+#[test]
+fn no_setup() {
+    let run = run_of(&card("no_setup"));
+    assert_eq!((run.end, run.status), (End::NoModel, vec![Status::Open; 3]));
+    assert_eq!(run.log, [LogRow { end: CallEnd::NoModel, chunk: 0, compared: 0, flipped: 0, tries: 0 }]);
+}
+
+#[test]
+fn the_table_says_the_same() {
+    for name in ["surface_ring", "encoder", "no_setup"] {
+        let (text, run) = (card(name), run_of(&card(name)));
+        let printed = table(&text);
+        let mut lines = printed.lines();
+        let (forced, free) = (run.forced().count(), run.free().count());
+        let number = match run.end {
+            End::Settled => 0,
+            End::NoModel => 20,
+            End::Stopped => 21,
+        };
+        let open = run.status.len() - forced - free;
+        let (calls, tries) = (run.log.len(), run.tries);
+        let first = format!("answer {number} calls {calls} tries {tries} forced {forced} free {free} open {open}");
+        assert_eq!(lines.next(), Some(first.as_str()));
+        let of_variables: Vec<String> = lines.map(str::to_string).collect();
+        let expected: Vec<String> = (1..).zip(&run.status).map(|(v, s)| line(v, *s)).collect();
+        assert_eq!(of_variables, if run.end == End::NoModel { vec![] } else { expected });
+    }
+    assert_eq!(table(b"p cnf 1 1\n2 0"), "refused 7 place 10\n");
+}
+
+fn line(v: u32, status: Status) -> String {
+    let word = match status {
+        Status::Open => "open",
+        Status::Free => "free",
+        Status::ForcedOn => "forced on",
+        Status::ForcedOff => "forced off",
+    };
+    format!("{v} {word}")
+}
+
+#[test]
+fn a_formula_gives_its_list_back() {
+    let formula = read(b"p cnf 3 3\n1 -3 0\n0 2 2 0").expect("it keeps the rules");
+    assert_eq!((formula.vars(), formula.entries()), (3, &[1, -3, 0, 0, 2, 2, 0][..]));
+    assert_eq!(formula.clauses().collect::<Vec<_>>(), [&[1, -3][..], &[], &[2, 2]]);
+    assert_eq!(formula, Formula::new(3, vec![1, -3, 0, 0, 2, 2, 0]));
+}
+
+#[test]
+fn the_budget_stops_a_run() {
+    let formula = Formula::new(3, vec![1, 2, 3, 0]);
+    let run = formula.run(Limits { budget: 2, chunk_limit: 2 }).expect("it keeps the rules");
+    assert_eq!((run.end, run.tries), (End::Stopped, 2));
+    assert_eq!(run.status, [Status::Free, Status::Free, Status::Open]);
+    let rows = [
+        LogRow { end: CallEnd::Model, chunk: 0, compared: 0, flipped: 2, tries: 2 },
+        LogRow { end: CallEnd::Stopped, chunk: 1, compared: 0, flipped: 0, tries: 0 },
+    ];
+    assert_eq!(run.log, rows);
+}
+
+#[test]
+fn nothing_at_all() {
+    let run = Formula::new(0, vec![]).run(Limits::default()).expect("it keeps the rules");
+    assert_eq!((run.end, run.status.len(), run.log.len()), (End::Settled, 0, 1));
+    assert_eq!(Formula::new(0, vec![0]).run(Limits::default()).expect("it keeps the rules").end, End::NoModel);
+}
+
+#[test]
+fn threads_at_once_say_the_same() {
+    let names = ["surface_ring", "encoder", "no_setup"];
+    let alone: Vec<Run> = names.map(|name| run_of(&card(name))).to_vec();
+    thread::scope(|scope| {
+        for _ in 0..2 {
+            scope.spawn(|| {
+                for _ in 0..100 {
+                    assert_eq!(names.map(|name| run_of(&card(name))).to_vec(), alone);
+                }
+            });
+        }
+    });
+}

@@ -1,0 +1,82 @@
+/*
+ * The stack that the deepest calls take. A thread runs on a stack that is painted; what is no longer paint afterwards was used, the
+ * thread's own start included. Then the same calls once more on IGB_STACK_BYTES, with memory below that no one may touch. The deepest
+ * run has 256 variables, and no clause that would set one: 256 tries, one below the other.
+ */
+#define _GNU_SOURCE
+#include "check.h"
+#include <pthread.h>
+#include <sys/mman.h>
+
+enum { LARGE = 8 << 20, BELOW = 4 << 20, PAINT = 0xA5 };
+
+static int32_t entries[IGB_ENTRIES_LEN];
+static uint8_t status[IGB_STATUS_LEN], table[IGB_TABLE_LEN];
+static uint32_t log_rows[IGB_LOG_LEN];
+
+static void *nothing(void *unused)
+{
+    return unused;
+}
+
+static void *read_largest(void *unused)
+{
+    static uint8_t text[IGB_TEXT_MAX];
+    memset(text, ' ', sizeof text);
+    memcpy(text, "p cnf 256 0", 11);
+    CHECK(igb_read(text, sizeof text, entries, IGB_ENTRIES_LEN).vars == 256, "the largest text");
+    return unused;
+}
+
+static void *run_deepest(void *unused)
+{
+    igb_report got = igb_run(entries, 0, 256, UINT32_MAX, 256, status, IGB_STATUS_LEN, log_rows, IGB_LOG_LEN);
+    CHECK(got.answer == IGB_OK && got.tries == 256 && got.free == 256, "the deepest run");
+    return unused;
+}
+
+static void *table_deepest(void *unused)
+{
+    CHECK(igb_table((const uint8_t *)"p cnf 256 0", 11, table, IGB_TABLE_LEN) > 256, "the deepest table");
+    return unused;
+}
+
+/* Runs `call` in a thread on the upper `bytes` of a painted mapping and answers how many of them it used. */
+static size_t used(void *(*call)(void *), size_t bytes)
+{
+    uint8_t *whole = mmap(NULL, BELOW + bytes, PROT_NONE, MAP_PRIVATE | MAP_ANONYMOUS, -1, 0);
+    uint8_t *stack = whole + BELOW;
+    if (whole == MAP_FAILED || mprotect(stack, bytes, PROT_READ | PROT_WRITE) != 0) {
+        perror("stack");
+        exit(2);
+    }
+    memset(stack, PAINT, bytes);
+    pthread_attr_t attr;
+    pthread_t thread;
+    pthread_attr_init(&attr);
+    CHECK(pthread_attr_setstack(&attr, stack, bytes) == 0, "the stack is taken");
+    CHECK(pthread_create(&thread, &attr, call, NULL) == 0, "the thread begins");
+    pthread_join(thread, NULL);
+    pthread_attr_destroy(&attr);
+    size_t untouched = 0;
+    while (untouched < bytes && stack[untouched] == PAINT)
+        untouched++;
+    munmap(whole, BELOW + bytes);
+    return bytes - untouched;
+}
+
+int main(void)
+{
+    static const struct {
+        const char *name;
+        void *(*call)(void *);
+    } calls[] = {{"a thread alone", nothing}, {"igb_read", read_largest}, {"igb_run", run_deepest}, {"igb_table", table_deepest}};
+    for (size_t i = 0; i < sizeof calls / sizeof *calls; i++) {
+        size_t bytes = used(calls[i].call, LARGE);
+        CHECK(bytes < IGB_STACK_BYTES, calls[i].name);
+        printf("stack: %s: %zu bytes\n", calls[i].name, bytes);
+    }
+    for (size_t i = 0; i < sizeof calls / sizeof *calls; i++)
+        used(calls[i].call, IGB_STACK_BYTES);
+    return ended("stack");
+}

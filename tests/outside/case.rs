@@ -1,0 +1,118 @@
+//! A case: one call of the library and the seed of the paint of its buffers. As a file it is lines of a word and what it is:
+//!
+//!   call run           or read, or table
+//!   paint 1
+//!   vars 3             run: variables, budget, chunk limit, lengths of both buffers, and the list
+//!   budget 100
+//!   chunk_limit 2
+//!   status_len 3
+//!   log_len 24
+//!   entries 1 2 3 0
+//!   room 4096          read and table: length of the buffer, and the text, with \n \t \r \\ and \xHH for what is not printed
+//!   text p cnf 1 1\n1 0\n
+
+use std::collections::BTreeMap;
+use std::fmt;
+use std::str::FromStr;
+
+#[derive(Clone)]
+pub enum Call {
+    Read { text: Vec<u8>, room: usize },
+    Run { entries: Vec<i32>, vars: u32, budget: u32, chunk_limit: u32, status_len: usize, log_len: usize },
+    Table { text: Vec<u8>, room: usize },
+}
+
+#[derive(Clone)]
+pub struct Case {
+    pub paint: u64,
+    pub call: Call,
+}
+
+impl Call {
+    pub fn name(&self) -> &'static str {
+        match self {
+            Call::Read { .. } => "read",
+            Call::Run { .. } => "run",
+            Call::Table { .. } => "table",
+        }
+    }
+}
+
+fn escaped(text: &[u8]) -> String {
+    let mut out = String::new();
+    for &b in text {
+        match b {
+            b'\n' => out.push_str("\\n"),
+            b'\t' => out.push_str("\\t"),
+            b'\r' => out.push_str("\\r"),
+            b'\\' => out.push_str("\\\\"),
+            b' '..=b'~' => out.push(b as char),
+            _ => out.push_str(&format!("\\x{b:02x}")),
+        }
+    }
+    out
+}
+
+fn unescaped(word: &str) -> Option<Vec<u8>> {
+    let mut out = Vec::new();
+    let mut bytes = word.bytes();
+    while let Some(b) = bytes.next() {
+        out.push(match b {
+            b'\\' => match bytes.next()? {
+                b'n' => b'\n',
+                b't' => b'\t',
+                b'r' => b'\r',
+                b'\\' => b'\\',
+                b'x' => {
+                    let digits = [bytes.next()?, bytes.next()?];
+                    u8::from_str_radix(std::str::from_utf8(&digits).ok()?, 16).ok()?
+                }
+                _ => return None,
+            },
+            _ => b,
+        });
+    }
+    Some(out)
+}
+
+impl fmt::Display for Case {
+    fn fmt(&self, f: &mut fmt::Formatter<'_>) -> fmt::Result {
+        writeln!(f, "call {}\npaint {}", self.call.name(), self.paint)?;
+        match &self.call {
+            Call::Read { text, room } | Call::Table { text, room } => writeln!(f, "room {room}\ntext {}", escaped(text)),
+            Call::Run { entries, vars, budget, chunk_limit, status_len, log_len } => {
+                writeln!(f, "vars {vars}\nbudget {budget}\nchunk_limit {chunk_limit}")?;
+                writeln!(f, "status_len {status_len}\nlog_len {log_len}")?;
+                let list: Vec<String> = entries.iter().map(i32::to_string).collect();
+                writeln!(f, "entries {}", list.join(" "))
+            }
+        }
+    }
+}
+
+impl FromStr for Case {
+    type Err = String;
+
+    fn from_str(file: &str) -> Result<Case, String> {
+        let lines: BTreeMap<&str, &str> = file.lines().map(|line| line.split_once(' ').unwrap_or((line, ""))).collect();
+        let word = |name: &str| lines.get(name).copied().ok_or(format!("no line '{name}'"));
+        fn number<T: FromStr>(word: &str) -> Result<T, String> {
+            word.parse().map_err(|_| format!("'{word}' is not such a number"))
+        }
+        let text = || unescaped(word("text")?).ok_or("the text is malformed".to_string());
+        let call = match word("call")? {
+            "read" => Call::Read { text: text()?, room: number(word("room")?)? },
+            "table" => Call::Table { text: text()?, room: number(word("room")?)? },
+            "run" => Call::Run {
+                entries: word("entries")?.split_whitespace().map(number).collect::<Result<_, _>>()?,
+                vars: number(word("vars")?)?,
+                budget: number(word("budget")?)?,
+                chunk_limit: number(word("chunk_limit")?)?,
+                status_len: number(word("status_len")?)?,
+                log_len: number(word("log_len")?)?,
+            },
+            other => return Err(format!("no call '{other}'")),
+        };
+        Ok(Case { paint: number(word("paint")?)?, call })
+    }
+}

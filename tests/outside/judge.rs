@@ -1,0 +1,219 @@
+//! One case judged: what the library answers and leaves in every buffer, against what the rules say. Buffers stand between guards and
+//! are painted before the call; everything is compared, guards too. A fault can be put into what the library gave, to show that it is
+//! noticed.
+
+use crate::case::{Call, Case};
+use crate::raw;
+use crate::rules::{self, Given};
+use crate::texts::Random;
+
+const GUARD: usize = 8;
+/// Up to so many variables all models are tried too.
+const FEW: u32 = 10;
+
+/// Numbers and buffers that a call gives, by name. A buffer has its guards, and `written` is how many elements the rules write.
+#[derive(Default)]
+pub struct Seen {
+    numbers: Vec<(&'static str, i64)>,
+    buffers: Vec<Buffer>,
+}
+
+struct Buffer {
+    name: &'static str,
+    cells: Vec<i64>,
+    written: usize,
+}
+
+/// The parts of `Seen` that a fault can be put into.
+pub fn faults() -> Vec<String> {
+    let mut all: Vec<String> = ["answer", "place", "vars", "clauses", "count"].map(|n| format!("read.{n}")).to_vec();
+    all.extend(["answer", "place", "calls", "tries", "forced", "free"].map(|n| format!("run.{n}")));
+    all.push("table.length".to_string());
+    for name in ["read.entries", "run.status", "run.log", "table.out"] {
+        all.extend(["before", "first", "last", "behind"].map(|place| format!("{name}.{place}")));
+    }
+    for name in ["read.text", "run.list", "run.models", "table.text"] {
+        all.extend(["first", "last"].map(|place| format!("{name}.{place}")));
+    }
+    all
+}
+
+impl Seen {
+    fn number(&mut self, name: &'static str, value: impl Into<i64>) {
+        self.numbers.push((name, value.into()));
+    }
+
+    fn buffer<T: Copy + Into<i64>>(&mut self, name: &'static str, cells: &[T], written: usize) {
+        let cells = cells.iter().map(|&c| c.into()).collect();
+        self.buffers.push(Buffer { name, cells, written });
+    }
+
+    /// Changes the named number, or the named place of the named buffer, where this call has it.
+    fn put_fault(&mut self, fault: &str) {
+        for (name, value) in &mut self.numbers {
+            if *name == fault {
+                *value += 1;
+            }
+        }
+        for b in &mut self.buffers {
+            let Some(place) = fault.strip_prefix(b.name).and_then(|rest| rest.strip_prefix('.')) else { continue };
+            let at = match place {
+                "before" => Some(GUARD - 1),
+                "first" if b.written > 0 => Some(GUARD),
+                "last" if b.written > 0 => Some(GUARD + b.written - 1),
+                "behind" => Some(GUARD + b.written),
+                _ => None,
+            };
+            if let Some(at) = at {
+                b.cells[at] ^= 1;
+            }
+        }
+    }
+
+    /// Where two differ, if they do.
+    fn difference(&self, expected: &Seen) -> Option<String> {
+        let parts = |s: &Seen| (s.numbers.len(), s.buffers.len());
+        assert_eq!(parts(self), parts(expected), "every part is compared");
+        for ((name, got), (_, want)) in self.numbers.iter().zip(&expected.numbers) {
+            if got != want {
+                return Some(format!("{name} is {got}, and the rules say {want}"));
+            }
+        }
+        for (b, e) in self.buffers.iter().zip(&expected.buffers) {
+            assert_eq!(b.cells.len(), e.cells.len(), "{} is compared whole", b.name);
+            if let Some(i) = (0..b.cells.len()).find(|&i| b.cells[i] != e.cells[i]) {
+                let at = i as i64 - GUARD as i64;
+                return Some(format!("{} has {} at {at}, and the rules say {}", b.name, b.cells[i], e.cells[i]));
+            }
+        }
+        None
+    }
+}
+
+/// `len` painted elements between two guards.
+fn painted<T>(r: &mut Random, len: usize, cell: impl Fn(u64) -> T) -> Vec<T> {
+    (0..len + 2 * GUARD).map(|_| cell(r.below(1 << 32))).collect()
+}
+
+/// The same buffer with `new` written at its start.
+fn written<T: Copy>(before: &[T], new: &[T]) -> Vec<T> {
+    let mut after = before.to_vec();
+    after[GUARD..GUARD + new.len()].copy_from_slice(new);
+    after
+}
+
+/// An argument that is only read stays: compared as a buffer that the rules leave as it is.
+fn kept<T: Copy + Into<i64> + Default>(name: &'static str, before: &[T], after: &[T], got: &mut Seen, want: &mut Seen) {
+    let guarded = |cells: &[T]| [&[T::default(); GUARD], cells, &[T::default(); GUARD]].concat();
+    got.buffer(name, &guarded(after), before.len());
+    want.buffer(name, &guarded(before), before.len());
+}
+
+fn read(r: &mut Random, text: &[u8], room: usize) -> (Seen, Seen) {
+    let (mut got, mut want) = (Seen::default(), Seen::default());
+    let before = painted(r, room, |x| x as i32);
+    let mut entries = before.clone();
+    let lent = Box::<[u8]>::from(text);
+    let x = raw::read(&lent, &mut entries[GUARD..GUARD + room]);
+    let expected = if room < rules::MAX_ENTRIES { Err((1, 0)) } else { rules::read(text) };
+    let mut list = vec![0; rules::MAX_ENTRIES];
+    let numbers = match expected {
+        Err((answer, place)) => {
+            if answer <= 2 {
+                list.clear();
+            }
+            [answer as usize, place, 0, 0, 0]
+        }
+        Ok(f) => {
+            list[..f.entries.len()].copy_from_slice(&f.entries);
+            [0, 0, f.vars, f.clauses, f.entries.len()]
+        }
+    };
+    let names = ["read.answer", "read.place", "read.vars", "read.clauses", "read.count"];
+    for ((name, x), n) in names.into_iter().zip([x.answer, x.place, x.vars, x.clauses, x.count]).zip(numbers) {
+        got.number(name, x);
+        want.number(name, n as i64);
+    }
+    got.buffer("read.entries", &entries, list.len());
+    want.buffer("read.entries", &written(&before, &list), list.len());
+    kept("read.text", text, &lent, &mut got, &mut want);
+    (got, want)
+}
+
+fn run(r: &mut Random, g: &Given) -> (Seen, Seen) {
+    let (mut got, mut want) = (Seen::default(), Seen::default());
+    let status_before = painted(r, g.status_len, |x| x as u8);
+    let log_before = painted(r, g.log_len, |x| x as u32);
+    let (mut status, mut log) = (status_before.clone(), log_before.clone());
+    let lent = Box::<[i32]>::from(g.entries);
+    let (s, l) = (&mut status[GUARD..GUARD + g.status_len], &mut log[GUARD..GUARD + g.log_len]);
+    let x = raw::run(&lent, g.vars, g.budget, g.chunk_limit, s, l);
+    let (mut new_status, mut new_log) = (Vec::new(), Vec::new());
+    let numbers = match rules::run(g) {
+        Err((answer, place)) => [answer as usize, place, 0, 0, 0, 0],
+        Ok(report) => {
+            new_log = report.log.concat().iter().map(|&n| n as u32).collect();
+            new_log.resize(6 * (g.vars as usize + 1), 0);
+            let numbers = [report.answer as usize, 0, report.log.len(), report.tries as usize, report.forced(), report.free()];
+            new_status = report.status;
+            numbers
+        }
+    };
+    let names = ["run.answer", "run.place", "run.calls", "run.tries", "run.forced", "run.free"];
+    for ((name, x), n) in names.into_iter().zip([x.answer, x.place, x.calls, x.tries, x.forced, x.free]).zip(numbers) {
+        got.number(name, x);
+        want.number(name, n as i64);
+    }
+    got.buffer("run.status", &status, new_status.len());
+    want.buffer("run.status", &written(&status_before, &new_status), new_status.len());
+    got.buffer("run.log", &log, new_log.len());
+    want.buffer("run.log", &written(&log_before, &new_log), new_log.len());
+    kept("run.list", g.entries, &lent, &mut got, &mut want);
+    if g.vars <= FEW && matches!(x.answer, 0 | 20 | 21) {
+        let marked = &status[GUARD..GUARD + g.vars as usize];
+        kept("run.models", &models_say(g, x.answer, marked), marked, &mut got, &mut want);
+    }
+    (got, want)
+}
+
+/// The statuses that all models allow: those of the definition, but open ones too where the run was stopped.
+fn models_say(g: &Given, answer: u32, marked: &[u8]) -> Vec<u8> {
+    match rules::by_models(g.vars as usize, &rules::clauses_of(g.entries)) {
+        None => vec![if answer == 0 { 4 } else { 0 }; marked.len()],
+        Some(known) if answer == 21 => known.iter().zip(marked).map(|(&k, &m)| if m == 0 { 0 } else { k }).collect(),
+        Some(known) => known,
+    }
+}
+
+fn table(r: &mut Random, text: &[u8], room: usize) -> (Seen, Seen) {
+    let (mut got, mut want) = (Seen::default(), Seen::default());
+    let before = painted(r, room, |x| x as u8);
+    let mut out = before.clone();
+    let lent = Box::<[u8]>::from(text);
+    let length = raw::table(&lent, &mut out[GUARD..GUARD + room]);
+    let expected = if room < 4_096 { String::new() } else { rules::table(text) };
+    got.number("table.length", length as i64);
+    want.number("table.length", expected.len() as i64);
+    got.buffer("table.out", &out, expected.len());
+    want.buffer("table.out", &written(&before, expected.as_bytes()), expected.len());
+    kept("table.text", text, &lent, &mut got, &mut want);
+    (got, want)
+}
+
+/// The first number that the rules say, and the difference of a case, if there is one; with a fault in what the library gave if one
+/// is named.
+pub fn judge(case: &Case, fault: Option<&str>) -> (i64, Option<String>) {
+    let mut r = Random::of_seed(case.paint);
+    let (mut got, want) = match &case.call {
+        Call::Read { text, room } => read(&mut r, text, *room),
+        Call::Run { entries, vars, budget, chunk_limit, status_len, log_len } => {
+            let (vars, budget, chunk_limit) = (*vars, *budget, *chunk_limit);
+            run(&mut r, &Given { entries, vars, budget, chunk_limit, status_len: *status_len, log_len: *log_len })
+        }
+        Call::Table { text, room } => table(&mut r, text, *room),
+    };
+    if let Some(fault) = fault {
+        got.put_fault(fault);
+    }
+    (want.numbers[0].1, got.difference(&want))
+}

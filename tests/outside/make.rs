@@ -1,0 +1,308 @@
+//! Cases: those at the edges of the rules, always the same, and cases at random.
+
+use crate::case::Call;
+use crate::rules::{self, Given, MAX_CLAUSES, MAX_ENTRIES, MAX_TEXT, MAX_VARS};
+use crate::texts::{random_text, text_of, Random};
+
+const LIMITS: [u32; 5] = [1, 2, 3, 16, 256];
+const TABLE: usize = 4_096;
+
+fn log_of(vars: u32) -> usize {
+    6 * (vars as usize + 1)
+}
+
+/// A run with exact buffers.
+fn exact(entries: Vec<i32>, vars: u32, budget: u32, chunk_limit: u32) -> Call {
+    Call::Run { entries, vars, budget, chunk_limit, status_len: vars as usize, log_len: log_of(vars) }
+}
+
+// ---- the edges
+
+/// One text in buffers of every interesting length, read and as a table.
+fn in_all_rooms(text: &[u8], calls: &mut Vec<Call>) {
+    for room in [0, 1, 4_095, 4_096, 4_097, 5_000] {
+        calls.push(Call::Read { text: text.to_vec(), room });
+        calls.push(Call::Table { text: text.to_vec(), room });
+    }
+}
+
+fn edge_texts() -> Vec<Vec<u8>> {
+    let ones = |n: usize| text_of(1, &[vec![1; n]]).into_bytes();
+    let mut texts: Vec<Vec<u8>> = Vec::new();
+    for text in [
+        "", "\n", "c", "c\n", "p", "p cnf", "p cnf 1", "p cnf 1 1", "p cnf 0 0", "p cnf 0 1\n0", "x", " p cnf 1 0", "p cnf 1 0 0",
+        "p cnf 1 -1", "pcnf 1 1", "p cnf 256 0", "p cnf 257 0", "p cnf 0 1025", "p cnf 999999999 999999999", "p cnf 1000000000 0",
+        "p cnf 0000000001 0", "p cnf 000000001 0", "p cnf 1 1\n-", "p cnf 1 1\n--1 0", "p cnf 1 1\n-0", "p cnf 1 1\n1 -00 0",
+        "p cnf 1 1\n000000001 0", "p cnf 1 1\n0000000001 0", "p cnf 1 1\n+1 0", "p cnf 1 1\n1 0 0", "p cnf 1 1\n1 0 %",
+        "p cnf 1 1\n999999999 0", "p cnf 1 1\n1 0\nc", "c p cnf 1 1\np cnf 1 2\r\n1 0\t0 ", "p cnf 1 1\r1 0",
+        "p\tcnf\t1\t1\t\r\n1 0", "p cnf 2 1\n1 2 2 -1 0",
+    ] {
+        texts.push(text.as_bytes().to_vec());
+    }
+    for (vars, clauses) in [(MAX_VARS, MAX_CLAUSES), (MAX_VARS + 1, 1), (1, MAX_CLAUSES + 1)] {
+        let units: Vec<Vec<i32>> = (0..clauses).map(|i| vec![(i % MAX_VARS) as i32 + 1]).collect();
+        texts.push(text_of(vars as i32, &units).into_bytes());
+    }
+    // 4,096 and 4,097 entries, and one behind the last clause
+    texts.extend([ones(MAX_ENTRIES - 1), ones(MAX_ENTRIES), ones(MAX_ENTRIES + 1)]);
+    texts.push([ones(MAX_ENTRIES - 1), b"1".to_vec()].concat());
+    for len in [MAX_TEXT - 1, MAX_TEXT, MAX_TEXT + 1, 2 * MAX_TEXT] {
+        for mut text in [b"p cnf 1 1\n1 0".to_vec(), b"c ".to_vec(), Vec::new()] {
+            text.resize(len, b' ');
+            texts.push(text);
+        }
+        texts.push(vec![b'0'; len]);
+    }
+    texts
+}
+
+/// The rules' small formulas and lists at the sizes, with budgets and limits at theirs.
+fn edge_lists() -> Vec<(Vec<i32>, u32)> {
+    let zeros = |n: usize| vec![0; n];
+    let ones = |n: usize| [vec![1; n - 1], vec![0]].concat();
+    let forced: Vec<i32> = (1..=MAX_VARS as i32).flat_map(|v| [if v % 3 == 0 { -v } else { v }, 0]).collect();
+    let mut lists = vec![
+        (vec![], 0), (vec![0], 0), (vec![], 1), (vec![1, 0], 1), (vec![1, 1, 0], 1), (vec![1, -1, 0], 1), (vec![1, 0, -1, 0], 1),
+        (vec![1, 2, 0, -1, -2, 0], 2), (vec![1, 2, 0, 1, -2, 0], 2), (vec![1, 0, 2, 0, 3, 0], 3), (vec![1, 2, 3, 0], 3),
+        (vec![1], 1), (vec![1, 0, 1], 1), (vec![2, 0], 1), (vec![-2, 0], 1), (vec![1, 0, 2], 1), (vec![i32::MIN, 0], 256),
+        (vec![i32::MAX, 0], 256), (vec![-i32::MAX, 0], 256), (vec![1, i32::MIN, 0], 1), (vec![257, 0], 256), (vec![1, 0], 0),
+        (zeros(MAX_CLAUSES), 1), (zeros(MAX_CLAUSES + 1), 1), (zeros(MAX_ENTRIES), 1), (zeros(MAX_ENTRIES + 1), 1),
+        (ones(MAX_ENTRIES), 1), (ones(MAX_ENTRIES + 1), 1), (vec![1; MAX_ENTRIES], 1), (vec![1; MAX_ENTRIES + 1], 0), (forced, 256),
+        (vec![], 256),
+    ];
+    for vars in [257, 1_000, u32::MAX - 1, u32::MAX] {
+        lists.push((vec![1, 0], vars));
+    }
+    lists
+}
+
+pub fn edges() -> Vec<Call> {
+    let mut calls = Vec::new();
+    for text in edge_texts() {
+        in_all_rooms(&text, &mut calls);
+    }
+    for (list, vars) in edge_lists() {
+        // the longest buffers that a run could ask for, and a little more, where the variables are too many
+        let (vs, log) = (vars.min(300) as usize, log_of(vars.min(300)));
+        for (status_len, log_len) in [(vs, log), (vs + 3, log + 7), (vs.max(1) - 1, log), (vs, log - 1), (0, 0)] {
+            for (budget, chunk_limit) in [(100, 2), (0, 1), (u32::MAX, 256), (100, 0), (100, 257), (100, u32::MAX)] {
+                calls.push(Call::Run { entries: list.clone(), vars, budget, chunk_limit, status_len, log_len });
+            }
+        }
+    }
+    calls
+}
+
+// ---- at random
+
+fn one_of<T: Copy>(r: &mut Random, list: &[T]) -> T {
+    list[r.below(list.len() as u64) as usize]
+}
+
+/// A list at random: clauses of 1 to 5 literals or, for more tries, of at least 2 or 3, and a few empty ones. Where a model is planted,
+/// each clause has a literal that is true in it, so that there is a valid setup.
+fn random_list(r: &mut Random, vars: u32, clauses: u64) -> Vec<i32> {
+    let least = 1 + r.below(3);
+    let more = 1 + r.below(3);
+    let planted: Option<Vec<bool>> = (r.below(2) == 0).then(|| (0..vars).map(|_| r.below(2) == 0).collect());
+    let mut list: Vec<i32> = Vec::new();
+    for _ in 0..clauses {
+        let start = list.len();
+        let literals = if vars == 0 || r.below(200) == 0 { 0 } else { least + r.below(more) };
+        for _ in 0..literals {
+            let v = 1 + r.below(vars.into()) as i32;
+            list.push(match r.below(16) {
+                0 if list.len() > start => list[start],
+                1 if list.len() > start => -list[start],
+                x if x % 2 == 0 => v,
+                _ => -v,
+            });
+        }
+        if let (Some(model), Some(first)) = (&planted, list.get_mut(start)) {
+            let v = first.abs();
+            *first = if model[v as usize - 1] { v } else { -v };
+        }
+        if planted.is_none() || list.len() > start {
+            list.push(0);
+        }
+    }
+    list
+}
+
+/// A small formula with every budget from none to more than enough, for every chunk limit of the list.
+fn every_budget(r: &mut Random, calls: &mut Vec<Call>) {
+    let vars = r.below(11) as u32;
+    let clauses = r.below(4 * u64::from(vars) + 3);
+    let entries = random_list(r, vars, clauses);
+    for chunk_limit in LIMITS {
+        let given = Given { entries: &entries, vars, budget: u32::MAX, chunk_limit, status_len: vars as usize, log_len: log_of(vars) };
+        let needed = rules::run(&given).expect("the list keeps the rules").tries as u32;
+        for budget in (0..=needed + 1).chain([u32::MAX]) {
+            let mut call = exact(entries.clone(), vars, budget, chunk_limit);
+            if let Call::Run { status_len, log_len, .. } = &mut call {
+                stretch(r, status_len);
+                stretch(r, log_len);
+            }
+            calls.push(call);
+        }
+    }
+}
+
+/// Now and then a length that is longer, or short by one.
+fn stretch(r: &mut Random, len: &mut usize) {
+    *len = match r.below(16) {
+        0 => len.saturating_sub(1),
+        x if x < 6 => *len + r.below(20) as usize,
+        _ => *len,
+    };
+}
+
+/// A formula of up to 256 variables, 1,024 clauses and 4,096 entries, most often with about as many clauses as make it hard.
+fn large(r: &mut Random) -> Call {
+    let most = one_of(r, &[40, 245]);
+    let vars = 12 + r.below(most) as u32;
+    let clauses = 1 + if r.below(4) == 0 { r.below(MAX_CLAUSES as u64) } else { r.below(5 * u64::from(vars)).min(MAX_CLAUSES as u64 - 1) };
+    let mut entries = random_list(r, vars, clauses);
+    if entries.len() > MAX_ENTRIES {
+        entries.truncate(MAX_ENTRIES);
+        entries[MAX_ENTRIES - 1] = 0;
+    }
+    let most = one_of(r, &[100, 1_000, 5_000]);
+    exact(entries, vars, r.below(most) as u32, one_of(r, &LIMITS))
+}
+
+/// A run with one to three things changed so that it may be refused.
+fn refused(r: &mut Random) -> Call {
+    let vars = if r.below(4) == 0 { r.below(257) as u32 } else { r.below(6) as u32 };
+    let clauses = r.below(8);
+    let list = random_list(r, vars, clauses);
+    let mut call = exact(list, vars, r.below(50) as u32, one_of(r, &LIMITS));
+    for _ in 0..=r.below(3) {
+        let Call::Run { entries, vars, chunk_limit, status_len, log_len, .. } = &mut call else { unreachable!("it is a run") };
+        match r.below(16) {
+            0 => *vars = one_of(r, &[257, 258, 1 << 16, 1 << 31, u32::MAX]),
+            1 => *chunk_limit = one_of(r, &[0, 257, 1 << 16, u32::MAX]),
+            2 => *status_len = r.below(*status_len as u64 + 1) as usize,
+            3 => *log_len = r.below(*log_len as u64 + 1) as usize,
+            4 => {
+                entries.pop();
+            }
+            5 => entries.push(1 + r.below(3) as i32),
+            6 => {
+                let long = MAX_ENTRIES + r.below(3) as usize - 1;
+                let fill = r.below(2) as i32;
+                entries.resize(entries.len().max(long), fill);
+            }
+            7 => {
+                let at = r.below(entries.len() as u64 + 1) as usize;
+                let zeros = MAX_CLAUSES - 8 + r.below(12) as usize;
+                entries.splice(at..at, std::iter::repeat(0).take(zeros));
+            }
+            _ => {
+                let above = (*vars).min(300) as i32 + 1;
+                let x = one_of(r, &[above, -above, i32::MIN, i32::MIN + 1, i32::MAX, 257, -257, 1 << 16]);
+                let at = r.below(entries.len() as u64 + 1) as usize;
+                entries.insert(at, x);
+            }
+        }
+    }
+    call
+}
+
+/// A list written as a text in some of the ways that the rules allow; now and then with a header that is one off.
+fn dressed(r: &mut Random) -> Vec<u8> {
+    let mut vars = r.below(12) as u32;
+    let clauses = r.below(3 * u64::from(vars) + 3);
+    let list = random_list(r, vars, clauses);
+    let mut count = list.iter().filter(|&&e| e == 0).count();
+    match r.below(12) {
+        0 => count += 1,
+        1 => count = count.saturating_sub(1),
+        2 => vars = vars.saturating_sub(1),
+        _ => {}
+    }
+    let mut text = String::new();
+    for _ in 0..r.below(3) {
+        text.push_str(one_of(r, &["\n", " \t\r\n", "c\n", "c p cnf 9 9\n", "comment\r\n"]));
+    }
+    let gap = |r: &mut Random| one_of(r, &[" ", "\t", "  ", " \t "]);
+    text.push_str(&format!("p{}cnf{}{vars:0>w$}{}{count}", gap(r), gap(r), gap(r), w = 1 + r.below(9) as usize));
+    text.push_str(one_of(r, &["\n", " \n", "\t\r\n", "\r\n"]));
+    for e in list {
+        let sign = if e < 0 { "-" } else { "" };
+        text.push_str(&format!("{sign}{:0>w$}", e.abs(), w = if r.below(8) == 0 { 1 + r.below(9) as usize } else { 1 }));
+        text.push_str(one_of(r, &[" ", "\n", "\t", "\r\n", "  "]));
+    }
+    text.into_bytes()
+}
+
+const BYTES: &[u8] = b"0123456789-- \t\r\npcnfx%\0\xff\x0b";
+
+/// Changes, inserts, cuts, removes, doubles or reverses bytes.
+fn damaged(r: &mut Random, text: &mut Vec<u8>) {
+    if text.is_empty() {
+        return;
+    }
+    let at = r.below(text.len() as u64) as usize;
+    let to = at + r.below((text.len() - at) as u64 + 1).min(12) as usize;
+    let byte = one_of(r, BYTES);
+    match r.below(6) {
+        0 => text[at] = byte,
+        1 => text.insert(at, byte),
+        2 => text.truncate(at),
+        3 => {
+            text.drain(at..to);
+        }
+        4 => {
+            let part = text[at..to].to_vec();
+            text.splice(at..at, part);
+        }
+        _ => text[at..to].reverse(),
+    }
+}
+
+/// A text whose list has about as many entries and clauses as are allowed.
+fn long_text(r: &mut Random) -> Vec<u8> {
+    let entries = MAX_ENTRIES - 3 + r.below(6) as usize;
+    let clauses = MAX_CLAUSES - 2 + r.below(3) as usize;
+    let sizes = (0..clauses).map(|i| (entries + i) / clauses);
+    let text: Vec<Vec<i32>> = sizes.map(|n| (1..n).map(|_| 1 + r.below(100) as i32).collect()).collect();
+    text_of(100, &text).into_bytes()
+}
+
+fn random_bytes(r: &mut Random) -> Vec<u8> {
+    let any = r.below(2) == 0;
+    (0..r.below(60)).map(|_| if any { r.below(256) as u8 } else { one_of(r, BYTES) }).collect()
+}
+
+/// A text at random, read and as a table.
+fn some_text(r: &mut Random, calls: &mut Vec<Call>) {
+    let mut text = match r.below(32) {
+        0 => long_text(r),
+        1 => random_bytes(r),
+        2..=4 => [b"p cnf 3 2\n".to_vec(), random_bytes(r)].concat(),
+        5..=12 => random_text(r),
+        _ => dressed(r),
+    };
+    if r.below(2) == 0 {
+        for _ in 0..=r.below(3) {
+            damaged(r, &mut text);
+        }
+    }
+    let mut room = TABLE;
+    stretch(r, &mut room);
+    calls.push(Call::Read { text: text.clone(), room });
+    calls.push(Call::Table { text, room });
+}
+
+/// The calls of one case at random.
+pub fn random_calls(r: &mut Random) -> Vec<Call> {
+    let mut calls = Vec::new();
+    match r.below(64) {
+        0 => calls.push(large(r)),
+        x if x < 16 => every_budget(r, &mut calls),
+        x if x < 32 => calls.push(refused(r)),
+        _ => some_text(r, &mut calls),
+    }
+    calls
+}

@@ -1,0 +1,380 @@
+//! The rules in plain Rust, written from the page alone and sharing no code with the crates: text to entries, the search, the run with
+//! what it refuses, the printed table, and forced and free from all models. `reference.rs` beside it and `tests/outside` use it.
+
+use std::collections::BTreeSet;
+use std::fmt::Write as _;
+
+pub const MAX_TEXT: usize = 32_768;
+pub const MAX_VARS: usize = 256;
+pub const MAX_CLAUSES: usize = 1_024;
+pub const MAX_ENTRIES: usize = 4_096;
+
+/// A refusal: its number and its place.
+pub type Refusal = (u32, usize);
+
+pub struct Formula {
+    pub vars: usize,
+    pub clauses: usize,
+    pub entries: Vec<i32>,
+}
+
+// ---- the text
+
+fn is_blank(b: u8) -> bool {
+    matches!(b, b' ' | b'\t' | b'\r' | b'\n')
+}
+
+/// 1 to 9 digits.
+fn digits(word: &[u8]) -> Option<usize> {
+    if word.is_empty() || word.len() > 9 || !word.iter().all(u8::is_ascii_digit) {
+        return None;
+    }
+    std::str::from_utf8(word).ok()?.parse().ok()
+}
+
+/// The header's two numbers, if the line is one.
+fn header(line: &[u8]) -> Option<(usize, usize)> {
+    let mut end = line.len();
+    while end > 0 && is_blank(line[end - 1]) {
+        end -= 1;
+    }
+    let line = &line[..end];
+    if line.first() != Some(&b'p') {
+        return None;
+    }
+    let words: Vec<&[u8]> = line.split(|&b| b == b' ' || b == b'\t').filter(|w| !w.is_empty()).collect();
+    match words[..] {
+        [b"p", b"cnf", vars, clauses] => Some((digits(vars)?, digits(clauses)?)),
+        _ => None,
+    }
+}
+
+pub fn read(text: &[u8]) -> Result<Formula, Refusal> {
+    if text.len() > MAX_TEXT {
+        return Err((2, MAX_TEXT));
+    }
+    let mut start = 0;
+    let (vars, clauses, mut at) = loop {
+        if start >= text.len() {
+            return Err((3, text.len()));
+        }
+        let end = text[start..].iter().position(|&b| b == b'\n').map_or(text.len(), |n| start + n);
+        let line = &text[start..end];
+        if line.iter().all(|&b| is_blank(b)) || line[0] == b'c' {
+            start = end + 1;
+            continue;
+        }
+        let Some((vars, clauses)) = header(line) else {
+            return Err((3, start));
+        };
+        if vars > MAX_VARS || clauses > MAX_CLAUSES {
+            return Err((4, start));
+        }
+        break (vars, clauses, end);
+    };
+    let mut entries = Vec::new();
+    let mut closed = 0;
+    loop {
+        while at < text.len() && is_blank(text[at]) {
+            at += 1;
+        }
+        if at >= text.len() {
+            break;
+        }
+        let from = at;
+        while at < text.len() && !is_blank(text[at]) {
+            at += 1;
+        }
+        let token = &text[from..at];
+        let (minus, word) = match token {
+            [b'-', rest @ ..] => (true, rest),
+            _ => (false, token),
+        };
+        let number = match digits(word) {
+            None => return Err((5, from)),
+            Some(0) if minus => return Err((5, from)),
+            Some(n) => n,
+        };
+        if closed == clauses {
+            return Err((6, from));
+        }
+        if number > vars {
+            return Err((7, from));
+        }
+        if entries.len() == MAX_ENTRIES {
+            return Err((8, from));
+        }
+        let value = number as i32;
+        entries.push(if minus { -value } else { value });
+        if number == 0 {
+            closed += 1;
+        }
+    }
+    if closed < clauses {
+        return Err((9, text.len()));
+    }
+    Ok(Formula { vars, clauses, entries })
+}
+
+// ---- the search
+
+pub type Clause = BTreeSet<i32>;
+type Values = Vec<Option<bool>>;
+
+pub fn clauses_of(entries: &[i32]) -> Vec<Clause> {
+    let mut all = Vec::new();
+    let mut one = Clause::new();
+    for &e in entries {
+        if e == 0 {
+            all.push(std::mem::take(&mut one));
+        } else {
+            one.insert(e);
+        }
+    }
+    all
+}
+
+fn value(values: &Values, l: i32) -> Option<bool> {
+    values[l.unsigned_abs() as usize - 1].map(|v| v == (l > 0))
+}
+
+/// False on a clash. Goes from the last clause to the first: the order is not to matter.
+fn close(clauses: &[Clause], values: &mut Values) -> bool {
+    loop {
+        let mut changed = false;
+        for clause in clauses.iter().rev() {
+            if clause.iter().any(|&l| value(values, l) == Some(true)) {
+                continue;
+            }
+            let mut unset = clause.iter().filter(|&&l| value(values, l).is_none());
+            match (unset.next(), unset.next()) {
+                (None, _) => return false,
+                (Some(&l), None) => {
+                    values[l.unsigned_abs() as usize - 1] = Some(l > 0);
+                    changed = true;
+                }
+                _ => {}
+            }
+        }
+        if !changed {
+            return true;
+        }
+    }
+}
+
+enum End {
+    Model(Vec<bool>),
+    None,
+    Stopped,
+}
+
+struct Meter {
+    budget: u64,
+    spent: u64,
+}
+
+fn go_on(clauses: &[Clause], mut values: Values, meter: &mut Meter) -> End {
+    if !close(clauses, &mut values) {
+        return End::None;
+    }
+    let Some(v) = values.iter().position(Option::is_none) else {
+        return End::Model(values.into_iter().map(Option::unwrap).collect());
+    };
+    for b in [false, true] {
+        if meter.spent == meter.budget {
+            return End::Stopped;
+        }
+        meter.spent += 1;
+        let mut tried = values.clone();
+        tried[v] = Some(b);
+        match go_on(clauses, tried, meter) {
+            End::None => {}
+            end => return end,
+        }
+    }
+    End::None
+}
+
+// ---- the run
+
+/// What a run is given.
+pub struct Given<'a> {
+    pub entries: &'a [i32],
+    pub vars: u32,
+    pub budget: u32,
+    pub chunk_limit: u32,
+    pub status_len: usize,
+    pub log_len: usize,
+}
+
+#[derive(Default)]
+pub struct Report {
+    pub answer: u32,
+    pub tries: u64,
+    pub status: Vec<u8>,
+    pub log: Vec<[u64; 6]>,
+}
+
+impl Report {
+    pub fn forced(&self) -> usize {
+        self.status.iter().filter(|&&s| s >= 2).count()
+    }
+
+    pub fn free(&self) -> usize {
+        self.status.iter().filter(|&&s| s == 1).count()
+    }
+}
+
+/// Why a run is refused, if it is.
+fn refusal(g: &Given) -> Option<Refusal> {
+    let (es, vars) = (g.entries, g.vars as usize);
+    if vars > MAX_VARS || g.chunk_limit == 0 || g.chunk_limit as usize > MAX_VARS {
+        return Some((10, 0));
+    }
+    if g.status_len < vars || g.log_len < 6 * (vars + 1) {
+        return Some((1, 0));
+    }
+    if es.len() > MAX_ENTRIES {
+        return Some((11, MAX_ENTRIES));
+    }
+    if es.last().is_some_and(|&e| e != 0) {
+        return Some((11, es.len()));
+    }
+    let zeros = es.iter().enumerate().filter(|(_, &e)| e == 0).map(|(i, _)| i);
+    if let Some(i) = zeros.skip(MAX_CLAUSES).next() {
+        return Some((11, i));
+    }
+    es.iter().position(|e| e.unsigned_abs() > g.vars).map(|i| (12, i))
+}
+
+fn holds(clauses: &[Clause], model: &[bool]) -> bool {
+    clauses.iter().all(|c| c.iter().any(|&l| model[l.unsigned_abs() as usize - 1] == (l > 0)))
+}
+
+/// The run; an error where it is refused.
+pub fn run(g: &Given) -> Result<Report, Refusal> {
+    if let Some(refusal) = refusal(g) {
+        return Err(refusal);
+    }
+    let vars = g.vars as usize;
+    let limit = g.chunk_limit as usize;
+    let clauses = clauses_of(g.entries);
+    let mut meter = Meter { budget: g.budget.into(), spent: 0 };
+    let mut r = Report { status: vec![0; vars], ..Report::default() };
+    let mut first: Vec<bool> = Vec::new();
+    let mut candidates: Vec<i32> = Vec::new();
+    let mut forced: Vec<i32> = Vec::new();
+    let mut size = 1;
+    let mut number = 0;
+    while number == 0 || !candidates.is_empty() {
+        number += 1;
+        let before = meter.spent;
+        let chunk: Vec<i32> = candidates.iter().copied().take(size).collect();
+        let mut call = clauses.clone();
+        if number > 1 {
+            call.extend(forced.iter().map(|&l| Clause::from([l])));
+            call.push(chunk.iter().map(|&l| -l).collect());
+        }
+        let end = go_on(&call, vec![None; vars], &mut meter);
+        let taken = chunk.len() as u64;
+        match end {
+            End::Model(model) => {
+                if number == 1 {
+                    first = model.clone();
+                    candidates = (1..=vars as i32).map(|v| if first[v as usize - 1] { v } else { -v }).collect();
+                }
+                let all = candidates.len();
+                candidates.retain(|&l| model[l.unsigned_abs() as usize - 1] == (l > 0));
+                let compared = candidates.len();
+                candidates.retain(|&l| {
+                    let mut other = model.clone();
+                    other[l.unsigned_abs() as usize - 1] = l < 0;
+                    !holds(&clauses, &other)
+                });
+                let flipped = candidates.len();
+                r.log.push([number, 1, taken, (all - compared) as u64, (compared - flipped) as u64, meter.spent - before]);
+                size = 1;
+            }
+            End::None => {
+                r.log.push([number, 2, taken, 0, 0, meter.spent - before]);
+                if number == 1 {
+                    r.answer = 20;
+                    r.tries = meter.spent;
+                    return Ok(r);
+                }
+                forced.extend(&chunk);
+                candidates.drain(..chunk.len());
+                size = (2 * size).min(limit);
+            }
+            End::Stopped => {
+                r.log.push([number, 3, taken, 0, 0, meter.spent - before]);
+                r.answer = 21;
+                break;
+            }
+        }
+    }
+    r.tries = meter.spent;
+    if !first.is_empty() || vars == 0 {
+        r.status = vec![1; vars];
+        for &l in &candidates {
+            r.status[l.unsigned_abs() as usize - 1] = 0;
+        }
+        for &l in &forced {
+            r.status[l.unsigned_abs() as usize - 1] = if l > 0 { 2 } else { 3 };
+        }
+    }
+    Ok(r)
+}
+
+/// The run that the table is made of.
+pub fn run_of(f: &Formula) -> Report {
+    let vars = f.vars as u32;
+    let log_len = 6 * (f.vars + 1);
+    run(&Given { entries: &f.entries, vars, budget: 1_000_000, chunk_limit: 16, status_len: f.vars, log_len })
+        .expect("the run of an accepted text is not refused")
+}
+
+// ---- the table
+
+/// A line a variable.
+pub fn status_lines(status: &[u8]) -> String {
+    let mut out = String::new();
+    for (i, s) in status.iter().enumerate() {
+        let word = ["open", "free", "forced on", "forced off"][*s as usize];
+        writeln!(out, "{} {word}", i + 1).expect("a string takes every byte");
+    }
+    out
+}
+
+pub fn table(text: &[u8]) -> String {
+    let f = match read(text) {
+        Err((number, place)) => return format!("refused {number} place {place}\n"),
+        Ok(f) => f,
+    };
+    let r = run_of(&f);
+    let (calls, forced, free) = (r.log.len(), r.forced(), r.free());
+    let open = f.vars - forced - free;
+    let first = format!("answer {} calls {calls} tries {} forced {forced} free {free} open {open}\n", r.answer, r.tries);
+    first + &if r.answer == 20 { String::new() } else { status_lines(&r.status) }
+}
+
+// ---- the definition
+
+/// Forced and free by the published definition, from all models: the status of each variable, or none where there is no model.
+pub fn by_models(vars: usize, clauses: &[Clause]) -> Option<Vec<u8>> {
+    let (mut ever_on, mut ever_off, mut models) = (0u32, 0u32, 0u32);
+    for bits in 0..1u32 << vars {
+        let model: Vec<bool> = (0..vars).map(|i| bits >> i & 1 == 1).collect();
+        if holds(clauses, &model) {
+            models += 1;
+            ever_on |= bits;
+            ever_off |= !bits;
+        }
+    }
+    let status = |i| match (ever_on >> i & 1, ever_off >> i & 1) {
+        (1, 1) => 1,
+        (1, 0) => 2,
+        _ => 3,
+    };
+    (models > 0).then(|| (0..vars).map(status).collect())
+}
