@@ -2,6 +2,7 @@
 -- fits; and what the crossings of a literal compute.
 --
 --   toZ-ofZ-at                    the bits of z read back, with z written out
+--   of-literal                    what a test says of the bits read back, it says of z
 --   fits-of-var                   a literal of a small variable fits
 --   isPositive-of-le, isNegative-of-lt, isPositive-of-not-lt     what a test against 0 says
 --   Magnitude, magnitude-negative the magnitude of a negative number, computed as -(x + 1) + 1
@@ -30,6 +31,10 @@ use Rattle.formula.specs.Literals.{isPositive, HasNegation}
 -- `toZ-ofZ` leaves its implicit arguments open under `+ℤ`
 pub toZ-ofZ-at : (z : ℤ) → SFits w32 z → toZ w32 (ofZ w32 z) ≡ z
 toZ-ofZ-at z f = toZ-ofZ f
+
+-- a test of what was read is one of the number itself
+pub of-literal : (p : ℤ → Bool) (z : ℤ) → SFits w32 z → {b : Bool} → b ≡ p (toZ w32 (ofZ w32 z)) → p z ≡ b
+of-literal p z f e = ap p (sym (toZ-ofZ-at z f)) ∙ sym e
 
 pub fits-of-var : (z : ℤ) → varOf z < 2 ^ 31 → SFits w32 z
 fits-of-var (pos n) h = record { sfits = h }

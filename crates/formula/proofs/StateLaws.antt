@@ -4,6 +4,7 @@
 --   withUnset                     a state and one more unset literal
 --   stateOf-true                  a clause with a true literal is true
 --   stateOf-snoc-set, stateOf-snoc-unset     one more literal that is not true
+--   NoneTrue, none-true-start, none-true-step, none-true-done     no literal passed is true: it begins, goes on, pays off
 --   flagState, Flags              the state that the flags say, and that it is the state of the first i literals
 --   flags-start, flags-set, flags-first, flags-same, flags-other, flags-done     the invariant begins, goes on, pays off
 --
@@ -67,6 +68,28 @@ stateOf-snoc-unset vs cl l f u =
     go false [] = refl
     go false (k ∷ us) = rw (all-append (eqz k) us (l ∷ [])) (both (all (eqz k) us) (eqz k l) k refl)
 
+-- ---- no literal passed is true
+
+pub record NoneTrue (vs : Values) (cl : Clause) (i : ℕ) : Type 0 where
+  pub passed : i ≤ length cl
+  pub none : hasTrue vs (take i cl) ≡ false
+
+pub none-true-start : (vs : Values) (cl : Clause) → NoneTrue vs cl 0
+none-true-start vs cl = record { passed = omega arith; none = refl }
+
+one-more : (cl : Clause) (i : ℕ) → i < length cl → take (i + 1) cl ≡ take i cl ++ getD cl i (pos 0) ∷ []
+one-more cl i h = rw (add-one i) (take-suc cl i (pos 0) h)
+
+pub none-true-step : (vs : Values) (cl : Clause) (i : ℕ) → i < length cl → NoneTrue vs cl i → isTrue vs (getD cl i (pos 0)) ≡ false → NoneTrue vs cl (i + 1)
+none-true-step vs cl i h w f =
+    record {
+      passed = omega arith;
+      none = ap (hasTrue vs) (one-more cl i h) ∙ hasTrue-snoc vs (take i cl) (getD cl i (pos 0)) f ∙ w .none;
+    }
+
+pub none-true-done : (vs : Values) (cl : Clause) (i : ℕ) → length cl ≤ i → NoneTrue vs cl i → hasTrue vs cl ≡ false
+none-true-done vs cl i h w = ap (hasTrue vs) (sym (take-all i cl h)) ∙ w .none
+
 -- ---- the running flags
 
 abbrev pub unitOr : Bool → ℤ → ClauseState
@@ -90,15 +113,12 @@ module _ (vs : Values) (cl : Clause) (i first : ℕ) (several : Bool) (h : i < l
   abbrev here : ℤ
   here = getD cl i (pos 0)
 
-  one-more : take (i + 1) cl ≡ take i cl ++ here ∷ []
-  one-more = rw (add-one i) (take-suc cl i (pos 0) h)
-
   unset-here : isTrue vs here ≡ false → isUnset vs here ≡ true → stateOf vs (take (i + 1) cl) ≡ withUnset (flagState cl first several) here
-  unset-here f u = ap (stateOf vs) one-more ∙ stateOf-snoc-unset vs (take i cl) here f u ∙ ap (λ (s : ClauseState). withUnset s here) (w .says)
+  unset-here f u = ap (stateOf vs) (one-more cl i h) ∙ stateOf-snoc-unset vs (take i cl) here f u ∙ ap (λ (s : ClauseState). withUnset s here) (w .says)
 
   pub flags-set : isTrue vs here ≡ false → isUnset vs here ≡ false → Flags vs cl (i + 1) first several
   flags-set f u =
-      record { passed = omega arith; says = ap (stateOf vs) one-more ∙ stateOf-snoc-set vs (take i cl) here f u ∙ w .says }
+      record { passed = omega arith; says = ap (stateOf vs) (one-more cl i h) ∙ stateOf-snoc-set vs (take i cl) here f u ∙ w .says }
 
   pub flags-first : isTrue vs here ≡ false → isUnset vs here ≡ true → length cl ≤ first → Flags vs cl (i + 1) i several
   flags-first f u e = record { passed = omega arith; says = unset-here f u ∙ go several }

@@ -1,12 +1,29 @@
 // The state of a clause under values, document 01, "Closing".
-use crate::value::LitValue;
-use crate::value::value_of;
+use crate::value::is_true;
+use crate::value::is_unset;
 use rules::ClauseState;
 use rules::Lit;
 ghost use mathlib.Core.Path.{_≡_};
 ghost use lib.ListN.{length};
+ghost use Rattle.rules.specs.Meaning.{hasTrue};
 ghost use Rattle.rules.specs.Closing.{stateOf};
 ghost use Rattle.formula.specs.Clauses.{ClauseUpTo};
+
+// Whether a clause has a true literal.
+pub fn has_true(clause: &[i32], values: &[u8]) -> bool
+    requires { ⌜ ClauseUpTo (length (now values)) (now clause) ⌝ }
+    ensures { λ r. ⌜ r ≡ hasTrue (now (values .entry)) (now (clause .entry)) ⌝ }
+{
+    let mut i = 0;
+    while i < clause.len() {
+        let l = clause[i];
+        if is_true(Lit(l), values) {
+            return true;
+        }
+        i += 1;
+    }
+    false
+}
 
 // What a clause is: one pass with running flags. A true literal ends it.
 pub fn state_of(clause: &[i32], values: &[u8]) -> ClauseState
@@ -20,20 +37,17 @@ pub fn state_of(clause: &[i32], values: &[u8]) -> ClauseState
     let mut i = 0;
     while i < clause.len() {
         let l = clause[i];
-        match value_of(Lit(l), values) {
-            LitValue::True => {
-                return ClauseState::True;
-            }
-            LitValue::False => {}
-            LitValue::Unset => {
-                if first < clause.len() {
-                    let unset = clause[first];
-                    if unset != l {
-                        several = true;
-                    }
-                } else {
-                    first = i;
+        if is_true(Lit(l), values) {
+            return ClauseState::True;
+        }
+        if is_unset(Lit(l), values) {
+            if first < clause.len() {
+                let unset = clause[first];
+                if unset != l {
+                    several = true;
                 }
+            } else {
+                first = i;
             }
         }
         i += 1;

@@ -6,7 +6,7 @@ use rules::Var;
 ghost use mathlib.Core.Path.{_≡_};
 ghost use Prim.Native.Nat.{_+_, _≤_};
 ghost use lib.ListN.{length};
-ghost use Rattle.rules.specs.Meaning.{LitUpTo};
+ghost use Rattle.rules.specs.Meaning.{LitUpTo, isTrue, isUnset};
 ghost use Rattle.formula.specs.Literals.{byteOf, litValue};
 
 // What a literal is under values.
@@ -31,16 +31,32 @@ pub fn byte_of(value: bool) -> u8
     if value { 2 } else { 1 }
 }
 
-// The value of a literal of one of the variables.
+// Whether a literal of one of the variables is unset.
+pub fn is_unset(l: Lit, values: &[u8]) -> bool
+    requires { ⌜ LitUpTo (length (now values)) (l .0) ⌝ }
+    ensures { λ r. ⌜ r ≡ isUnset (now (values .entry)) (l .0) ⌝ }
+{
+    let at = index_of(var_of(l));
+    values[at] == 0
+}
+
+// Whether it is true.
+pub fn is_true(l: Lit, values: &[u8]) -> bool
+    requires { ⌜ LitUpTo (length (now values)) (l .0) ⌝ }
+    ensures { λ r. ⌜ r ≡ isTrue (now (values .entry)) (l .0) ⌝ }
+{
+    let at = index_of(var_of(l));
+    values[at] == byte_of(sign(l))
+}
+
+// Its value.
 pub fn value_of(l: Lit, values: &[u8]) -> LitValue
     requires { ⌜ LitUpTo (length (now values)) (l .0) ⌝ }
     ensures { λ r. ⌜ r ≡ litValue (now (values .entry)) (l .0) ⌝ }
 {
-    let at = index_of(var_of(l));
-    let byte = values[at];
-    if byte == 0 {
+    if is_unset(l, values) {
         LitValue::Unset
-    } else if byte == byte_of(sign(l)) {
+    } else if is_true(l, values) {
         LitValue::True
     } else {
         LitValue::False

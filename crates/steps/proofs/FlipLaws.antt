@@ -1,7 +1,5 @@
--- The laws of specs/Flip: whether a clause has a true literal, by its state; all clauses, one after the other; a variable flipped and
--- taken back.
+-- The laws of specs/Flip: all clauses, one after the other; a variable flipped and taken back.
 --
---   hasTrue-of-state  a clause has a true literal exactly if its state is True
 --   otherByte-high    the other byte of 2
 --   AllSo, allSo-start, allSo-step, allSo-stop, allSo-done     the loop of `all_true`
 --   taken-back        a byte stored and stored back
@@ -20,34 +18,13 @@ use native.Mathlib.Numerals.{add-one}
 use lib.IntN.{ℤ}
 use lib.ListN.{length, getD, set, take}
 use lib.Seq.{take-suc, take-all, set-set, set-getD}
-use Rattle.rules.specs.declared.ClauseState.{ClauseState}
-use Rattle.rules.specs.declared.ClauseState.the-variants.{False, Unit, True, Undecided}
 use Rattle.rules.specs.Lists.{In}
 use Rattle.rules.specs.Meaning.{Clause, Values, hasTrue, satisfies}
-use Rattle.rules.specs.Closing.{stateOf}
 use Rattle.rules.specs.Run.{otherByte, flipped, canFlip}
 use Rattle.steps.specs.Filter.{DropsAt}
 use Rattle.steps.specs.Flip.{CanFlip, FlipsAt, Flips}
 use Rattle.steps.proofs.FilterLaws.{drops-closed, Filtering, filtering-start, filtering-step, filtering-done}
 use Rattle.rules.proofs.ListLaws.{never, not-true, in-getD, getD-default, all-sound, all-append-of}
-use Rattle.rules.proofs.StateLaws.{Means, means}
-
--- ---- one clause
-
-abbrev pub isTrueState : ClauseState → Bool
-isTrueState False = false
-isTrueState (Unit l) = false
-isTrueState True = true
-isTrueState Undecided = false
-
-pub hasTrue-of-state : (vs : Values) (cl : Clause) (s : ClauseState) → s ≡ stateOf vs cl → isTrueState s ≡ hasTrue vs cl
-hasTrue-of-state vs cl s e = go s (rw (← e) at (means vs cl))
-  where
-    go : (s : ClauseState) → Means vs cl s → isTrueState s ≡ hasTrue vs cl
-    go False m = sym (m .none-true)
-    go (Unit l) m = sym (m .none-true)
-    go True m = sym m
-    go Undecided m = sym (m .none-true)
 
 -- ---- all clauses
 

@@ -3,24 +3,10 @@
 ghost use mathlib.Core.Path.{_≡_};
 ghost use Prim.Native.Nat.{_+_, _≤_, _<_};
 ghost use lib.ListN.{length};
-ghost use Rattle.rules.specs.Meaning.{hasTrue, satisfies, clauses};
+ghost use Rattle.rules.specs.Meaning.{satisfies, clauses};
 ghost use Rattle.rules.specs.Run.{canFlip, otherByte};
-ghost use Rattle.formula.specs.Clauses.{ClauseUpTo};
 ghost use Rattle.steps.specs.Filter.{DropsAt, Drops};
 ghost use Rattle.steps.specs.Flip.{Formula, Flips, FlipsAt, CanFlip};
-
-// Whether a clause has a true literal.
-fn has_true(clause: &[i32], values: &[u8]) -> bool
-    requires { ⌜ ClauseUpTo (length (now values)) (now clause) ⌝ }
-    ensures { λ r. ⌜ r ≡ hasTrue (now (values .entry)) (now (clause .entry)) ⌝ }
-{
-    match formula::state::state_of(clause, values) {
-        rules::ClauseState::True => true,
-        rules::ClauseState::False => false,
-        rules::ClauseState::Unit(_) => false,
-        rules::ClauseState::Undecided => false,
-    }
-}
 
 // Whether all clauses of the formula have a true literal.
 fn all_true(entries: &[i32], starts: &[u16], count: u32, values: &[u8]) -> bool
@@ -36,7 +22,7 @@ fn all_true(entries: &[i32], starts: &[u16], count: u32, values: &[u8]) -> bool
             &entries[..0],
             rules::ClauseNo(n + 1),
         );
-        if has_true(clause, values) {
+        if formula::state::has_true(clause, values) {
             n += 1;
         } else {
             return false;
