@@ -5,15 +5,14 @@ cd "$(dirname "$0")/.." || exit 2
 mkdir -p target/bench
 out=target/bench
 src=bench/src
-link=()
 cfg=(--check-cfg 'cfg(cadical)' --check-cfg 'cfg(picosat)')
 found=""
 
 gcc -O2 -Wall -Wextra -Werror -c "$src/stack.c" -o "$out/stack.o" || exit 1
-link+=("$out/stack.o")
+link="$out/stack.o"
 if [ -f /usr/include/cadical.hpp ]; then
     g++ -O2 -Wall -Wextra -Werror -c "$src/cadical_loop.cpp" -o "$out/cadical_loop.o" || exit 1
-    link+=("$out/cadical_loop.o" -lcadical -lstdc++)
+    link+=" $out/cadical_loop.o -lcadical -lstdc++"
     cfg+=(--cfg cadical)
     found+=", CaDiCaL"
 else
@@ -21,7 +20,7 @@ else
 fi
 if [ -f /usr/include/picosat/picosat.h ]; then
     gcc -O2 -Wall -Wextra -Werror -c "$src/picosat_loop.c" -o "$out/picosat_loop.o" || exit 1
-    link+=("$out/picosat_loop.o" -l:libpicosat.a)
+    link+=" $out/picosat_loop.o -l:libpicosat.a"
     cfg+=(--cfg picosat)
     found+=", PicoSAT"
 else
@@ -34,6 +33,6 @@ if [ "${1:-}" = objects ]; then
 else
     library=target/staticlib/libigbezolum.a
     [ -f "$library" ] || { echo "bench: no $library: run 'rt staticlib igbezolum' first"; exit 2; }
-    "${rust[@]}" -C "link-args=$out/stack.o" -C "link-args=${link[*]:1} $library" -o "$out/bench" || exit 1
+    "${rust[@]}" -C "link-args=$link $library" -o "$out/bench" || exit 1
 fi
 echo "bench: compiled with plain Rust$found"

@@ -11,6 +11,7 @@ extern "C" const char *bench_cadical_version() { return CaDiCaL::Solver::version
 extern "C" uint32_t bench_cadical(const int32_t *entries, size_t entries_len, uint32_t vars, uint8_t *status) {
     CaDiCaL::Solver solver;
     const int n = static_cast<int>(vars);
+    solver.set("quiet", 1);
     solver.reserve(n);
     for (size_t i = 0; i < entries_len; i++) solver.add(entries[i]);
     for (int v = 0; v < n; v++) status[v] = 0;

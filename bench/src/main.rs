@@ -18,7 +18,7 @@ use std::process::ExitCode;
 use std::time::{Duration, Instant};
 use workloads::{Workload, CHUNK_LIMIT};
 
-const ROUNDS: usize = 15;
+const ROUNDS: usize = 11;
 /// A sample repeats its work until it takes about so long.
 const SAMPLE: Duration = Duration::from_millis(20);
 

@@ -1,0 +1,19 @@
+#!/usr/bin/env bash
+# Instruction counts of three fixed workloads by valgrind's callgrind, the library's and the plain program's: a line each with tabs
+# between, as bench/run puts them into RESULTS.md. Only what is done below the C function, or the plain one, is counted.
+cd "$(dirname "$0")/.." || exit 2
+command -v valgrind >/dev/null 2>&1 || { echo "instructions: valgrind is not installed (apt-get install valgrind)" >&2; exit 0; }
+bash bench/build.sh >&2 || exit 1
+
+# WHO NAME FUNCTION
+count() {
+    valgrind --tool=callgrind --callgrind-out-file=/dev/null --collect-atstart=no --toggle-collect="$3" \
+        target/bench/bench once "$1" "$2" crates/vectors/data 2>&1 | awk '/Collected :/ {print $NF}'
+}
+while IFS=: read -r name function; do
+    printf 'instructions\t%s\t%s\t%s\n' "$name" "$(count library "$name" "igb_$function")" "$(count plain "$name" "bench::plain::$function")"
+done <<'END'
+card 128:run
+3-SAT 50, ratio 4.2:run
+read most entries:read
+END
