@@ -11,7 +11,9 @@ count() {
         target/bench/bench once "$1" "$2" crates/vectors/data 2>&1 | awk '/Collected :/ {print $NF}'
 }
 while IFS=: read -r name function; do
-    printf 'instructions\t%s\t%s\t%s\n' "$name" "$(count library "$name" "igb_$function")" "$(count plain "$name" "bench::plain::$function")"
+    ours=$(count library "$name" "igb_$function")
+    plain=$(count plain "$name" "bench::plain::$function")
+    printf 'instructions\t%s\t%s\t%s\n' "$name" "$ours" "$plain"
 done <<'END'
 card 128:run
 3-SAT 50, ratio 4.2:run

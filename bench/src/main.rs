@@ -197,7 +197,7 @@ fn measure_readings(workload: &Workload) -> Result<Measured, Failure> {
             black_box(w.read(black_box(text), &mut entries));
         }
     });
-    let result = measured(workload, &formulas, 0, taken);
+    let result = Measured { formulas: workload.texts.len(), ..measured(workload, &formulas, 0, taken) };
     eprintln!("{:24} {:>8} bytes  {}", result.name, result.bytes, ratios_said(&result));
     Ok(result)
 }

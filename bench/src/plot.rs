@@ -38,12 +38,12 @@ impl Drawing {
         let (x, y) = at;
         let colour = COLOURS[which];
         let fill = if hollow { "white" } else { colour };
-        let style = format!("fill=\"{fill}\" stroke=\"{colour}\" stroke-width=\"1.5\"");
+        let style = format!("fill=\"{fill}\" stroke=\"{colour}\" stroke-width=\"1.2\"");
         let _ = match which {
-            0 => writeln!(self.body, "<circle cx=\"{x:.1}\" cy=\"{y:.1}\" r=\"4\" {style}/>"),
-            1 => writeln!(self.body, "<rect x=\"{:.1}\" y=\"{:.1}\" width=\"7\" height=\"7\" {style}/>", x - 3.5, y - 3.5),
+            0 => writeln!(self.body, "<circle cx=\"{x:.1}\" cy=\"{y:.1}\" r=\"3.4\" {style}/>"),
+            1 => writeln!(self.body, "<rect x=\"{:.1}\" y=\"{:.1}\" width=\"6\" height=\"6\" {style}/>", x - 3.0, y - 3.0),
             _ => {
-                let (left, right, top, bottom) = (x - 4.5, x + 4.5, y - 4.5, y + 3.5);
+                let (left, right, top, bottom) = (x - 4.0, x + 4.0, y - 4.0, y + 3.0);
                 writeln!(self.body, "<polygon points=\"{left:.1},{bottom:.1} {right:.1},{bottom:.1} {x:.1},{top:.1}\" {style}/>")
             }
         };
@@ -68,14 +68,12 @@ struct Axis {
 }
 
 impl Axis {
-    /// Around the values, out to the next 1, 2 or 5 of a power of ten.
+    /// Around the values, with a little room at both ends.
     fn around(values: impl Iterator<Item = f64> + Clone, from: f64, to: f64) -> Axis {
         let least = values.clone().fold(f64::INFINITY, f64::min);
         let most = values.fold(0.0, f64::max);
-        let all = steps(&[1.0, 2.0, 5.0]);
-        let low = *all.iter().rev().find(|s| **s <= least * 1.000_001).unwrap_or(&all[0]);
-        let high = *all.iter().find(|s| **s >= most * 0.999_999).unwrap_or(&all[all.len() - 1]);
-        Axis { low, high, from, to }
+        let room = (most / least).powf(0.04);
+        Axis { low: least / room, high: most * room, from, to }
     }
 
     fn place(&self, value: f64) -> f64 {
@@ -86,7 +84,7 @@ impl Axis {
     fn ticks(&self) -> Vec<f64> {
         let decades = (self.high / self.low).log10();
         let parts: &[f64] = if (self.to - self.from).abs() / decades > 130.0 { &[1.0, 2.0, 5.0] } else { &[1.0] };
-        steps(parts).into_iter().filter(|s| *s >= self.low * 0.999 && *s <= self.high * 1.001).collect()
+        steps(parts).into_iter().filter(|s| *s >= self.low && *s <= self.high).collect()
     }
 }
 
@@ -116,7 +114,7 @@ fn row(m: &Measured) -> (String, Vec<Option<Spread>>) {
 pub fn ratios(r: &Results) -> String {
     let mut rows: Vec<(String, Vec<Option<Spread>>)> = r.runs.iter().map(row).collect();
     rows.extend(r.readings.iter().map(|m| (format!("reader: {}", m.name), vec![Some(m.ratio())])));
-    let (left, top, step) = (190.0, 84.0, 22.0);
+    let (left, top, step) = (190.0, 84.0, 26.0);
     let bottom = top + step * rows.len() as f64;
     let mut d = Drawing::new(880.0, bottom + 58.0);
     let values = rows.iter().flat_map(|(_, ratios)| ratios.iter().flatten().flat_map(|s| [s.low, s.high])).chain([0.5, 2.0]);
@@ -139,13 +137,13 @@ pub fn ratios(r: &Results) -> String {
     d.text(((left + 870.0) / 2.0, bottom + 42.0), "middle", 13.0, "ratio (logarithmic)");
     for (i, (name, ratios)) in rows.iter().enumerate() {
         let y = top + step * (i as f64 + 0.5);
-        if i == r.runs.len() {
-            d.line((20.0, y - step / 2.0), (870.0, y - step / 2.0), INK, 0.8, false);
-        }
+        let colour = if i == r.runs.len() { INK } else { GRID };
+        d.line((20.0, y - step / 2.0), (870.0, y - step / 2.0), colour, 0.8, false);
         d.text((left, y + 4.0), "end", 13.0, name);
-        for (which, spread) in ratios.iter().enumerate().rev() {
+        for (which, spread) in ratios.iter().enumerate() {
             let Some(s) = spread else { continue };
-            d.line((axis.place(s.low), y), (axis.place(s.high), y), COLOURS[which], 3.0, false);
+            let y = y + 7.0 * (which as f64 - (ratios.len() - 1) as f64 / 2.0);
+            d.line((axis.place(s.low), y), (axis.place(s.high), y), COLOURS[which], 2.0, false);
             d.mark(which, (axis.place(s.median), y), false);
         }
     }

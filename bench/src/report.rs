@@ -26,6 +26,7 @@ fn time(ns: f64) -> String {
 
 fn digits(value: f64) -> String {
     match value {
+        _ if value < 0.1 => format!("{value:.4}"),
         _ if value < 10.0 => format!("{value:.2}"),
         _ if value < 100.0 => format!("{value:.1}"),
         _ => format!("{value:.0}"),
@@ -70,11 +71,12 @@ fn targets(r: &Results, out: &mut String) {
     let reader = geometric_mean(&r.readings.iter().map(|m| m.ratio().median).collect::<Vec<_>>());
     *out += "## Targets\n\n| What | Target | Measured | |\n|---|---|---|---|\n";
     let worst_ratio = worst.ratio().median;
-    let _ = writeln!(out, "| library / plain Rust, geometric mean of the runs | {MEAN:.1} | {mean:.2} | {} |", is_met(mean <= MEAN));
-    let _ = writeln!(out, "| the same, worst run ({}) | {WORST:.1} | {worst_ratio:.2} | {} |", worst.name, is_met(worst_ratio <= WORST));
+    let _ = writeln!(out, "| library / plain Rust, geometric mean | at most {MEAN:.1} | {mean:.2} | {} |", is_met(mean <= MEAN));
+    let (name, met) = (&worst.name, is_met(worst_ratio <= WORST));
+    let _ = writeln!(out, "| the same, worst run ({name}) | at most {WORST:.1} | {worst_ratio:.2} | {met} |");
     let _ = writeln!(out, "| reader / plain Rust reader, geometric mean | | {reader:.2} | |");
-    let met = is_met(r.stack < STACK);
-    let _ = writeln!(out, "| stack of the deepest run | {} bytes | {} bytes | {met} |\n", thousands(STACK as u64), thousands(r.stack as u64));
+    let (most, stack, met) = (thousands(STACK as u64), thousands(r.stack as u64), is_met(r.stack < STACK));
+    let _ = writeln!(out, "| stack of the deepest run | below {most} bytes | {stack} bytes | {met} |\n");
 }
 
 fn runs(r: &Results, out: &mut String) {
@@ -82,11 +84,10 @@ fn runs(r: &Results, out: &mut String) {
              faster: the median of\nthe rounds, and the quartiles. ns a try is the whole time of the library divided by the tries.\n\n";
     *out += "| Workload | Formulas | Tries | Library | Plain Rust | Ratio | ns a try |\n|---|---|---|---|---|---|---|\n";
     for m in &r.runs {
-        let ours = m.library().time;
-        let plain = m.taken[1].time;
+        let (ours, plain) = (m.library().time, m.taken[1].time);
+        let _ = write!(out, "| {} | {} | {} |", m.name, m.formulas, thousands(m.tries));
         let each = a_try(ours.median, m.tries);
-        let (formulas, tries) = (m.formulas, thousands(m.tries));
-        let _ = writeln!(out, "| {} | {formulas} | {tries} | {} | {} | {} | {each} |", m.name, around(ours), around(plain), ratio(m.ratio()));
+        let _ = writeln!(out, " {} | {} | {} | {each} |", around(ours), around(plain), ratio(m.ratio()));
     }
     *out += "\n![Ratios](ratios.svg)\n\n";
 }
@@ -97,7 +98,8 @@ fn peers(r: &Results, out: &mut String) {
         *out += "## Runs against peers\n\nNone is installed.\n\n";
         return;
     }
-    *out += "## Runs against peers\n\nWhere a budget stops the run there is nothing to compare, and the row is left out.\n\n| Workload | Library |";
+    *out += "## Runs against peers\n\nWhere a budget stops the run there is nothing to compare, and the row is left out.\n\n";
+    *out += "| Workload | Library |";
     for who in &asked {
         let _ = write!(out, " {0} | library / {0} |", who.name());
     }
@@ -178,7 +180,7 @@ fn workloads(list: &[Measured], out: &mut String) {
 
 pub fn page(r: &Results, facts: &str) -> String {
     let mut out = String::from("# Results\n\nWritten by `bash bench/run`; `bench/README.md` says how to read it.\n\n");
-    let took = format!("{:.0} s, {ROUNDS} rounds, samples of at least {} ms", r.took.as_secs_f64(), SAMPLE.as_millis());
+    let took = format!("{:.0} s, {ROUNDS} rounds, samples of about {} ms", r.took.as_secs_f64(), SAMPLE.as_millis());
     pairs("Where and when", facts, "machine", &[("peers", library::peers()), ("measured in", took)], &mut out);
     targets(r, &mut out);
     runs(r, &mut out);

@@ -251,7 +251,8 @@ pub fn runs(folder: &str) -> std::io::Result<Vec<Workload>> {
 // The published files: how the names of those by others start, and some of them.
 const OTHERS: [&str; 3] = ["cadical-", "cvc4-", "ruby31-"];
 const ADDER: &[&str] = &["cadical-add8.cnf"];
-const LARGE: &[&str] = &["cadical-prime25.cnf", "cadical-prime49.cnf", "cadical-sqrt2809.cnf", "cadical-sqrt3481.cnf", "cadical-sqrt3721.cnf"];
+const LARGE: &[&str] =
+    &["cadical-prime25.cnf", "cadical-prime49.cnf", "cadical-sqrt2809.cnf", "cadical-sqrt3481.cnf", "cadical-sqrt3721.cnf"];
 const HOLES: &[&str] = &["cadical-ph5.cnf", "cadical-ph6.cnf", "cvc4-hole6.cnf"];
 
 /// Each point is named by its number of variables.
