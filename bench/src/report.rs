@@ -148,13 +148,14 @@ fn facts_of<'a>(facts: &'a str, table: &'a str) -> impl Iterator<Item = Vec<&'a 
 }
 
 fn instructions(facts: &str, out: &mut String) {
-    *out += "## Instructions\n\nBy callgrind, so they do not depend on how busy the machine is: `bash bench/instructions.sh`.\n\n\
-             | Workload | Library | Plain Rust | Ratio |\n|---|---|---|---|\n";
+    *out += "## Instructions\n\nBy callgrind, so they do not depend on how busy the machine is: `bash bench/instructions.sh`. Wrong \
+             branches are those that\ncallgrind's model of a processor foresees wrongly.\n\n\
+             | Workload | Library | Plain Rust | Ratio | Wrong branches, library | Plain Rust | Ratio |\n|---|---|---|---|---|---|---|\n";
     for words in facts_of(facts, "instructions") {
-        if let [name, ours, plain] = words[..] {
-            let (Ok(ours), Ok(plain)) = (ours.parse::<u64>(), plain.parse::<u64>()) else { continue };
-            let _ = writeln!(out, "| {name} | {} | {} | {:.2} |", thousands(ours), thousands(plain), ours as f64 / plain as f64);
-        }
+        let counts: Vec<u64> = words[1..].iter().filter_map(|word| word.parse().ok()).collect();
+        let [ours, our_wrong, plain, plain_wrong] = counts[..] else { continue };
+        let pair = |a: u64, b: u64| format!("{} | {} | {:.2}", thousands(a), thousands(b), a as f64 / b as f64);
+        let _ = writeln!(out, "| {} | {} | {} |", words[0], pair(ours, plain), pair(our_wrong, plain_wrong));
     }
     out.push('\n');
 }
