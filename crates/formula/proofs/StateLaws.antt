@@ -3,7 +3,7 @@
 --
 --   withUnset                     a state and one more unset literal
 --   stateOf-true                  a clause with a true literal is true
---   stateOf-snoc-set, stateOf-snoc-unset     one more literal that is not true
+--   stateOf-snoc-set, stateOf-snoc-unset     one more literal that is not true, or unset
 --   NoneTrue, none-true-start, none-true-step, none-true-done     no literal passed is true: it begins, goes on, pays off
 --   flagState, Flags              the state that the flags say, and that it is the state of the first i literals
 --   flags-start, flags-set, flags-first, flags-same, flags-other, flags-done     the invariant begins, goes on, pays off
@@ -26,7 +26,8 @@ use Rattle.rules.specs.declared.ClauseState.the-variants.{False, Unit, True, Un
 use Rattle.rules.specs.Lists.{In, all, keep, eqz}
 use Rattle.rules.specs.Meaning.{Clause, Values, isTrue, isUnset, hasTrue}
 use Rattle.rules.specs.Closing.{literal, unitIf, stateBy, stateOf}
-use Rattle.rules.proofs.ListLaws.{any-append, all-append, keep-append, any-complete, eqz-complete, eqz-other}
+use Rattle.rules.proofs.ListLaws.{never, not-true, any-append, all-append, keep-append, any-complete, eqz-complete, eqz-other}
+use Rattle.rules.proofs.MeaningLaws.{isUnset-of-isTrue}
 
 -- ---- one more literal
 
@@ -52,11 +53,11 @@ pub stateOf-snoc-set : (vs : Values) (cl : Clause) (l : ℤ) → isTrue vs l ≡
 unfolding stateOf
 stateOf-snoc-set vs cl l f u = rw (hasTrue-snoc vs cl l f, keep-append (isUnset vs) cl (l ∷ []), u, append-nil (keep (isUnset vs) cl))
 
-pub stateOf-snoc-unset : (vs : Values) (cl : Clause) (l : ℤ) → isTrue vs l ≡ false → isUnset vs l ≡ true
+pub stateOf-snoc-unset : (vs : Values) (cl : Clause) (l : ℤ) → isUnset vs l ≡ true
     → stateOf vs (cl ++ l ∷ []) ≡ withUnset (stateOf vs cl) l
 unfolding stateOf
-stateOf-snoc-unset vs cl l f u =
-    rw (hasTrue-snoc vs cl l f, keep-append (isUnset vs) cl (l ∷ []), u) (go (hasTrue vs cl) (keep (isUnset vs) cl))
+stateOf-snoc-unset vs cl l u =
+    rw (hasTrue-snoc vs cl l (not-true (isTrue vs l) (λ t. never u (isUnset-of-isTrue vs l t))), keep-append (isUnset vs) cl (l ∷ []), u) (go (hasTrue vs cl) (keep (isUnset vs) cl))
   where
     both : (a b : Bool) (k : ℤ) → eqz k l ≡ b → unitIf (a && (b && true)) k ≡ withUnset (unitIf a k) l
     both true true k e = rw e
@@ -113,30 +114,30 @@ module _ (vs : Values) (cl : Clause) (i first : ℕ) (several : Bool) (h : i < l
   abbrev here : ℤ
   here = getD cl i (pos 0)
 
-  unset-here : isTrue vs here ≡ false → isUnset vs here ≡ true → stateOf vs (take (i + 1) cl) ≡ withUnset (flagState cl first several) here
-  unset-here f u = ap (stateOf vs) (one-more cl i h) ∙ stateOf-snoc-unset vs (take i cl) here f u ∙ ap (λ (s : ClauseState). withUnset s here) (w .says)
+  unset-here : isUnset vs here ≡ true → stateOf vs (take (i + 1) cl) ≡ withUnset (flagState cl first several) here
+  unset-here u = ap (stateOf vs) (one-more cl i h) ∙ stateOf-snoc-unset vs (take i cl) here u ∙ ap (λ (s : ClauseState). withUnset s here) (w .says)
 
   pub flags-set : isTrue vs here ≡ false → isUnset vs here ≡ false → Flags vs cl (i + 1) first several
   flags-set f u =
       record { passed = omega arith; says = ap (stateOf vs) (one-more cl i h) ∙ stateOf-snoc-set vs (take i cl) here f u ∙ w .says }
 
-  pub flags-first : isTrue vs here ≡ false → isUnset vs here ≡ true → length cl ≤ first → Flags vs cl (i + 1) i several
-  flags-first f u e = record { passed = omega arith; says = unset-here f u ∙ go several }
+  pub flags-first : isUnset vs here ≡ true → length cl ≤ first → Flags vs cl (i + 1) i several
+  flags-first u e = record { passed = omega arith; says = unset-here u ∙ go several }
     where
       go : (b : Bool) → withUnset (flagState cl first b) here ≡ flagState cl i b
       go true = refl
       go false = rw (le-ltb first (length cl) e, lt-ltb i (length cl) h)
 
-  module _ (f : isTrue vs here ≡ false) (u : isUnset vs here ≡ true) (k : first < length cl) where
+  module _ (u : isUnset vs here ≡ true) (k : first < length cl) where
     pub flags-same : getD cl first (pos 0) ≡ here → Flags vs cl (i + 1) first several
-    flags-same e = record { passed = omega arith; says = unset-here f u ∙ go several }
+    flags-same e = record { passed = omega arith; says = unset-here u ∙ go several }
       where
         go : (b : Bool) → withUnset (flagState cl first b) here ≡ flagState cl first b
         go true = refl
         go false = rw (lt-ltb first (length cl) k, eqz-complete (getD cl first (pos 0)) here e)
 
     pub flags-other : getD cl first (pos 0) ≢ here → Flags vs cl (i + 1) first true
-    flags-other e = record { passed = omega arith; says = unset-here f u ∙ go several }
+    flags-other e = record { passed = omega arith; says = unset-here u ∙ go several }
       where
         go : (b : Bool) → withUnset (flagState cl first b) here ≡ Undecided
         go true = refl

@@ -37,9 +37,6 @@ pub fn state_of(clause: &[i32], values: &[u8]) -> ClauseState
     let mut i = 0;
     while i < clause.len() {
         let l = clause[i];
-        if is_true(Lit(l), values) {
-            return ClauseState::True;
-        }
         if is_unset(Lit(l), values) {
             if first < clause.len() {
                 let unset = clause[first];
@@ -49,6 +46,8 @@ pub fn state_of(clause: &[i32], values: &[u8]) -> ClauseState
             } else {
                 first = i;
             }
+        } else if is_true(Lit(l), values) {
+            return ClauseState::True;
         }
         i += 1;
     }
