@@ -4,7 +4,7 @@
 --   p-short, p-is, cnf-short, cnf-is      the words `p` and `cnf`
 --   Cuts, cuts-within             a line with no blanks behind, from gap to gap, within the line
 --   line-bad, line-large, line-fits     the text by what its header line says; large-vars, large-clauses, small-both: 3 before 4
---   words-four, words-more  a line with no blanks behind: four words or more
+--   header-four, words-more       a line with no blanks behind: four words, as they are judged, or more
 --
 -- Assumes nothing.
 use mathlib.Core.Path.{_≡_, refl, sym, _∙_, ap}
@@ -197,7 +197,7 @@ module _ {line : List ℕ} {p cnf cnf-end vars vars-end clauses clauses-end more
   W = take p line
 
   -- a word that is missing counts as an empty one, which no header has
-  pub words-four :
+  words-four :
       length line ≤ more →
       sizesOf (wordsOf (cut isGap line)) ≡
       sizesOf (take p line ∷ take (cnf-end - cnf) (drop cnf line) ∷ take (vars-end - vars) (drop vars line) ∷
@@ -233,6 +233,15 @@ module _ {line : List ℕ} {p cnf cnf-end vars vars-end clauses clauses-end more
           ap (λ (ws : List (List ℕ)). sizesOf (W ∷ ws)) (at-none line p cnf (w .cnf-from) (omega arith)) ∙
           no-cnf W (part line vars vars-end) (part line clauses clauses-end) ∙
           ap (λ (x : List ℕ). sizesOf (W ∷ x ∷ part line vars vars-end ∷ part line clauses clauses-end ∷ [])) (part-none line cnf cnf-end (w .cnf-to) (omega arith))
+
+  pub header-four :
+      length line ≤ more → {r : HeaderLine} →
+      r ≡
+      headerLine
+      (sizesOf (take p line ∷ take (cnf-end - cnf) (drop cnf line) ∷ take (vars-end - vars) (drop vars line) ∷
+      take (clauses-end - clauses) (drop clauses line) ∷ [])) →
+      r ≡ headerLine (sizesOf (wordsOf (cut isGap line)))
+  header-four h e = e ∙ sym (ap headerLine (words-four h))
 
   pub words-more : more < length line → sizesOf (wordsOf (cut isGap line)) ≡ none
   words-more h = ap sizesOf (words-first line p (w .p-to)) ∙ second (decLt cnf (length line))

@@ -58,7 +58,7 @@ same-length-2 c = search needs
 returns : tie.Need-returns
 returns c =
     let s = c .before .before .before .before .before .before .before .before in
-    runs-refused (the-given s) (sym (c .before .refusal .given .1) ∙ c .before .before .before .refuse .ensures (s .args .budget))
+    runs-refused (the-given s) (_∙_ {c = found (refusalOf (the-given s))} (sym (c .before .refusal .given .1)) (c .before .before .before .refuse .ensures (s .args .budget)))
 
 same-length-3 : tie.Need-same-length-3
 same-length-3 c = search needs

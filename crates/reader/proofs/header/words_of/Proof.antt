@@ -1,9 +1,9 @@
 -- `reader::header::words_of` meets its contract. What the eight searches find are the cuts of the line. Assumes nothing.
-use mathlib.Core.Path.{sym, _∙_, ap}
+use mathlib.Core.Path.{sym, ap}
 use borrow.Author.Needs.{needs}
 use lib.Seq.{length-take-le}
 use Rattle.reader.specs.Words.{headerLine}
-use Rattle.reader.proofs.HeaderLaws.{Cuts, cuts-within, words-four, words-more}
+use Rattle.reader.proofs.HeaderLaws.{Cuts, cuts-within, header-four, words-more}
 use Rattle.reader.proofs.header.words_of.Statement.{statement}
 use Rattle.reader.proofs.header.words_of.Tie as tie
 
@@ -93,7 +93,7 @@ returns-2 : tie.Need-returns-2
 returns-2 c =
     let else1 = c .before .before .before .before .before in
     let at-find8 = else1 .before in
-    c .sizes-of .ensures ∙ sym (ap headerLine (words-four (cuts (at-find8)) (else1 .if1 .left)))
+    header-four (cuts at-find8) (else1 .if1 .left) (c .sizes-of .ensures)
 
 pub words-of-spec : {M : Type 1} → statement M
 words-of-spec =

@@ -7,7 +7,8 @@ use borrow.Author.Tests.{lt-ltb, le-ltb}
 use borrow.Author.Needs.{needs}
 use lib.ListN.{length}
 use Rattle.rules.specs.Text.{isBlank}
-use Rattle.reader.specs.Steps.{endStep}
+use Rattle.reader.specs.Words.{valueOf}
+use Rattle.reader.specs.Steps.{endStep, entryStep}
 use Rattle.reader.proofs.ScanLaws.{from-le}
 use Rattle.reader.proofs.StepLaws.{step-end, step-bad, step-entry}
 use Rattle.reader.proofs.tokens.next_step.Statement.{statement}
@@ -90,9 +91,9 @@ returns-4 c =
     let t = at-find2 .find2 in
     let there = else1 .if1 .left in
     let e = at-e .e .given in
-    c .judge-entry .ensures ∙
-    sym
-    (step-entry (s .h) (s .text .now) (s .c) (f .result) (t .result) (e .0 .0) (f .ensures) (t .ensures) there (sym (at-token-of .token-of .ensures) ∙ e .1))
+    _∙_ {b = entryStep (s .h) (s .c) (f .result) (t .result) (valueOf (e .0 .0))} (c .judge-entry .ensures)
+    (sym
+    (step-entry (s .h) (s .text .now) (s .c) (f .result) (t .result) (e .0 .0) (f .ensures) (t .ensures) there (sym (at-token-of .token-of .ensures) ∙ e .1)))
 
 pub next-step-spec : {M : Type 1} → statement M
 next-step-spec =

@@ -2,7 +2,7 @@
 -- to. The measure is the number of clauses left. Assumes nothing.
 use mathlib.Core.Path.{_≡_, sym, _∙_, ap}
 use mathlib.Core.List.{[]}
-use Prim.Native.Nat.{_-_, _<_}
+use Prim.Native.Nat.{_+_, _-_, _<_}
 use native.Mathlib.Omega.{arith}
 use native.Mathlib.Numerals.{add-one}
 use lib.ListN.{getD, length}
@@ -37,7 +37,8 @@ clause-is c =
     let start = c .before .before .before .before .before in
     let n = c .before .before .loop .n in
     getD-callClauses (start .args .entries .now) (start .args .constraint .now) (start .args .total) n (c .before .loop-test .taken) ∙
-    ap (clauseAt (start .args .entries .now) (start .args .constraint .now)) (sym (add-one n)) ∙ sym (c .clause-in .ensures)
+    ap (clauseAt (start .args .entries .now) (start .args .constraint .now)) (sym (add-one n)) ∙
+    sym {b = clauseAt (start .args .entries .now) (start .args .constraint .now) (n + 1)} (c .clause-in .ensures)
 
 -- and is within the call
 in-call : (c : tie.In-loop Inv-loop μ-loop) → c .before .loop .n < length (callClauses (c .before .before .before .before .args .entries .now) (c .before .before .before .before .args .constraint .now) (c .before .before .before .before .args .total))

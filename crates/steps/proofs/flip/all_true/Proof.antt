@@ -48,7 +48,7 @@ here c =
     let n = at-loop .loop .n in
     let h : suc n ≤ length (clauses (s .args .entries .now)) = omega (arith, c .before .before .before .loop-test .taken, s .pre .count-is) in
     ap (hasTrue (s .args .values .now))
-    (clauseAt-formula (s .args .entries .now) [] (suc n) (omega arith) h ∙ ap (clauseAt (s .args .entries .now) []) (sym (add-one n)) ∙ sym (c .before .clause-in .ensures)) ∙
+    (clauseAt-formula (s .args .entries .now) [] (suc n) (omega arith) h ∙ ap (clauseAt (s .args .entries .now) []) (sym (add-one n)) ∙ sym {b = clauseAt (s .args .entries .now) [] (n + 1)} (c .before .clause-in .ensures)) ∙
     sym (c .has-true .ensures)
 
 add-n : tie.Need-add-n Inv-loop μ-loop
