@@ -14,17 +14,11 @@ fn read_file(name: &[u8], text: &mut [u8]) -> usize
     n
 }
 
-fn write_table(text: &[u8]) {
-    let mut out = [0u8; 4096];
-    let n = printed::print(text, &mut out);
-    io::write_all(STDOUT_FILENO, &out[..n]);
-}
-
 fn show(name: &[u8], text: &mut [u8]) {
     io::write_all(STDOUT_FILENO, name);
     io::write_all(STDOUT_FILENO, b"\n");
     let n = read_file(name, text);
-    write_table(&text[..n]);
+    output::write_table(&text[..n]);
 }
 
 fn show_word(i: usize, name: &mut [u8], text: &mut [u8]) {

@@ -4,8 +4,8 @@ use native.Mathlib.Omega.{arith}
 use lib.Seq.{length-take-le}
 use borrow.Author.Needs.{needs}
 use Rattle.printed.proofs.TableLaws.{prints-le}
-use Rattle.table.proofs.write_table.Statement.{statement}
-use Rattle.table.proofs.write_table.Tie as tie
+use Rattle.output.proofs.write_table.Statement.{statement}
+use Rattle.output.proofs.write_table.Tie as tie
 
 slice-aggregate-print : tie.Need-slice-aggregate-print
 slice-aggregate-print c = search needs

@@ -1,0 +1,10 @@
+// The table of a text on standard output, for the programs. No contract can say what is written; which bytes it is given is proved in
+// `printed`.
+use libc::STDOUT_FILENO;
+
+// Prints the table of a text.
+pub fn write_table(text: &[u8]) {
+    let mut out = [0u8; 4096];
+    let n = printed::print(text, &mut out);
+    io::write_all(STDOUT_FILENO, &out[..n]);
+}
