@@ -1,5 +1,6 @@
 -- The laws of specs/First: the run by its first call.
 --
+--   copied-whole      all of one list put over another of its length
 --   shows-begun, ready-begun     cleared buffers show a run that has begun, and there is room for its first row
 --   formula-ready, first-called     what the first call needs, and what its end says
 --   done              a run that has ended as the state and the buffers show is done
@@ -9,12 +10,12 @@
 -- Assumes nothing.
 use mathlib.Core.Path.{_≡_, refl, sym, _∙_, ap}
 use mathlib.Core.Logic.{_≢_}
-use mathlib.Core.List.{List, [], _∷_}
+use mathlib.Core.List.{List, [], _∷_, _++_, append-nil}
 use Prim.Native.Nat.{ℕ, _+_, _-_, _*_, _≤_}
 use native.Mathlib.Omega.{arith}
 use lib.IntN.{ℤ}
-use lib.ListN.{length, replicate, length-replicate}
-use lib.Seq.{sets}
+use lib.ListN.{length, take, drop, replicate, length-replicate, drop-of-length-le}
+use lib.Seq.{sets, take-all}
 use Rattle.rules.specs.declared.Outcome.{Outcome}
 use Rattle.rules.specs.declared.RunAnswer.{RunAnswer}
 use Rattle.rules.specs.declared.Report.{Report}
@@ -36,7 +37,15 @@ use Rattle.chunks.specs.Calls.{At}
 use Rattle.backbone.specs.First.{answerOf, endOf, Cleared, RunDone}
 use Rattle.chunks.proofs.StepLaws.{shows-row}
 
--- before the first call
+-- ---- the first model is kept
+
+pub copied-whole : (xs ys : List ℕ) {zs : List ℕ} → length ys ≡ length xs → zs ≡ take (length xs) xs ++ drop (length xs) ys → zs ≡ xs
+copied-whole xs ys e f =
+    f ∙ ap (λ (ts : List ℕ). ts ++ drop (length xs) ys) (take-all (length xs) xs (omega arith)) ∙
+    ap (λ (ts : List ℕ). xs ++ ts) (drop-of-length-le ys {i = length xs} (omega (arith, e))) ∙ append-nil xs
+
+-- ---- before the first call
+
 abbrev pub started : ℕ → State
 started vars = record { size = 1; left = vars; calls = 0; tries = 0; free = 0; forced = 0 }
 

@@ -66,7 +66,7 @@ fn first_model(
     requires { ⌜ Ready (task (now entries) (length (now status)) budget limit) (now entries) (now starts) count (now status) (now values) × Cleared (now status) (now log) × (length (now first) ≡ length (now status)) × (firstCall (task (now entries) (length (now status)) budget limit) ≡ model (now values) spent) ⌝ }
     ensures { λ r. ⌜ RunDone (task (now (entries .entry)) (length (now (status .entry))) budget limit) r (now (status .exit)) (now (log .exit)) ⌝ }
 {
-    steps::buffer::copy(values, first);
+    search::values::copy_first(values, first, values.len());
     let n = values.len() as u32;
     let s = chunks::step::after_model(
         entries,

@@ -23,15 +23,3 @@ pub fn clear_numbers(numbers: &mut [u32])
         i += 1;
     }
 }
-
-// Copies the bytes of one buffer to another of the same length.
-pub fn copy(from: &[u8], to: &mut [u8])
-    requires { ⌜ length (now from) ≡ length (now to) ⌝ }
-    ensures { λ _. ⌜ now (to .exit) ≡ now (from .entry) ⌝ }
-{
-    let mut i: usize = 0;
-    while i < to.len() {
-        to[i] = from[i];
-        i += 1;
-    }
-}

@@ -7,12 +7,18 @@ use lib.ListN.{length}
 use Rattle.rules.specs.Run.{Task, begun, afterModel}
 use Rattle.chunks.specs.Step.{Shows}
 use Rattle.chunks.specs.Calls.{At, task}
-use Rattle.backbone.proofs.FirstLaws.{shows-begun, ready-begun, first-at, run-from-model, done}
+use Rattle.backbone.proofs.FirstLaws.{copied-whole, shows-begun, ready-begun, first-at, run-from-model, done}
 use Rattle.backbone.proofs.first.first_model.Statement.{statement}
 use Rattle.backbone.proofs.first.first_model.Tie as tie
 
-copy-requires : tie.Need-copy-requires
-copy-requires c κs = search needs
+copy-first-requires : tie.Need-copy-first-requires
+copy-first-requires c κs = search needs
+
+-- the first model is kept as it is
+kept-model : (c : tie.After-copy-first) → let s = c .before .before .before .before .before .before .before .before in c .copy-first .last .1 .0 ≡ s .args .values .now
+kept-model c =
+    let s = c .before .before .before .before .before .before .before .before in
+    copied-whole (s .args .values .now) (s .args .first .now) (s .pre .2 ∙ sym (s .pre .0 .values-len)) (c .copy-first .ensures)
 
 cast-n : tie.Need-cast-n
 cast-n c = search needs
@@ -22,16 +28,16 @@ after-model-requires c κs =
     let copied = c .before .before .before .before .before .before in
     let s = c .before .before .before .before .before .before .before .before .before .before .before .before .before .before in
     let r = s .pre .0 in
-    (rw (r .values-len) (r .is-formula), ready-begun (s .pre .1) (ap length (copied .copy .ensures) ∙ r .values-len) (r .values-len) (r .is-formula .vars-fit) (s .args .spent), r .values-len)
+    (rw (r .values-len) (r .is-formula), ready-begun (s .pre .1) (ap length (kept-model copied) ∙ r .values-len) (r .values-len) (r .is-formula .vars-fit) (s .args .spent), r .values-len)
 
 -- the task, and where the run is after the first model
 abbrev the-task : tie.Start → Task
 the-task s = task (s .args .entries .now) (length (s .args .status .now)) (s .args .budget) (s .args .limit)
 
-stepped : (c : tie.After-after-model) → let s = c .before .before .before .before .before .before .before .before .before .before .before .before .before .before .before in (c .after-model .result .size ≡ 1) × Shows (length (s .args .status .now)) (afterModel (the-task s) (begun (the-task s) (s .args .values .now)) 0 (s .args .values .now) (s .args .spent)) (c .after-model .result) (c .before .before .before .before .before .before .before .copy .last .1 .0) (c .after-model .last .1 .1 .1 .1 .1 .0) (c .after-model .last .1 .1 .1 .1 .1 .1 .0)
+stepped : (c : tie.After-after-model) → let s = c .before .before .before .before .before .before .before .before .before .before .before .before .before .before .before in (c .after-model .result .size ≡ 1) × Shows (length (s .args .status .now)) (afterModel (the-task s) (begun (the-task s) (s .args .values .now)) 0 (s .args .values .now) (s .args .spent)) (c .after-model .result) (c .before .before .before .before .before .before .before .copy-first .last .1 .0) (c .after-model .last .1 .1 .1 .1 .1 .0) (c .after-model .last .1 .1 .1 .1 .1 .1 .0)
 stepped c =
     let s = c .before .before .before .before .before .before .before .before .before .before .before .before .before .before .before in
-    c .after-model .ensures (the-task s) (begun (the-task s) (s .args .values .now)) refl (shows-begun (s .pre .1) (the-task s) (s .args .values .now) refl (c .before .before .before .before .before .before .before .copy .ensures) (s .pre .0 .values-len))
+    c .after-model .ensures (the-task s) (begun (the-task s) (s .args .values .now)) refl (shows-begun (s .pre .1) (the-task s) (s .args .values .now) refl (kept-model (c .before .before .before .before .before .before .before)) (s .pre .0 .values-len))
 
 run-chunks-requires : tie.Need-run-chunks-requires
 run-chunks-requires c κs =
@@ -48,7 +54,7 @@ same-length : tie.Need-same-length
 same-length c = search needs
 
 same-length-2 : tie.Need-same-length-2
-same-length-2 c = c .before .before .before .before .before .before .before .before .before .before .before .before .before .before .before .before .before .before .before .before .before .before .before .before .before .copy .kept .1 .0
+same-length-2 c = c .before .before .before .before .before .before .before .before .before .before .before .before .before .before .before .before .before .before .before .before .before .before .before .before .before .copy-first .kept .1 .0
 
 same-length-3 : tie.Need-same-length-3
 same-length-3 c = search needs
@@ -70,7 +76,7 @@ pub first-model-spec : {M : Type 1} → statement M
 first-model-spec =
     tie.close
     (tie.spec
-    copy-requires
+    copy-first-requires
     cast-n
     after-model-requires
     run-chunks-requires
