@@ -127,6 +127,8 @@ igb_reading igb_read(const uint8_t *text, size_t text_len, int32_t *entries, siz
 
 /*
  * Runs on a list of `vars` variables: `entries` with the count that igb_read returned as `entries_len`, or a list of the caller's own.
+ * What igb_read has accepted is never refused with IGB_BAD_LIST or IGB_ENTRY_OVER_VARS.
+ *
  * `budget` is how many tries of a value the whole run may take; `chunk_limit` is how many candidates one call may take at most. The
  * limit changes the number of calls and tries, and never a settled status.
  *

@@ -2,20 +2,35 @@
 --   reads-in-unique runs-in-unique   no second result meets the promise
 --   reads-back runs-back             the numbers lose nothing: the answer that they stand for keeps the promise of the crate below,
 --                                    so that every theorem about it holds of them
+--   read-card card-runs              a text that is accepted: its clauses stand in the buffer, and their run is not refused for them
+--   settled-forced settled-free no-model-exactly forced-sound free-witness calls-most tries-most
+--                                    what the statuses and the numbers of a run say of models
 -- Assumes nothing.
 use mathlib.Core.Path.{_≡_, refl, sym, _∙_, ap}
 use mathlib.Core.Bool.{cond}
-use mathlib.Core.List.{List}
-use Prim.Native.Nat.{ℕ}
+use mathlib.Core.Logic.{_≢_, _↔_}
+use mathlib.Core.List.{List, _++_, append-assoc}
+use Prim.Native.Nat.{ℕ, _+_, _-_, _≤_, _<_}
 use lib.Dec.{eqb}
-use lib.IntN.{ℤ}
+use lib.IntN.{ℤ, pos}
+use lib.ListN.{length, take, drop, replicate}
+use lib.Seq.{take-append-seam}
 use Rattle.rules.specs.declared.ReadAnswer.{ReadAnswer}
 use Rattle.rules.specs.declared.Reading.{Reading}
 use Rattle.rules.specs.declared.RunAnswer.{RunAnswer}
 use Rattle.rules.specs.declared.Report.{Report}
-use Rattle.rules.specs.Numbers.{readNumber, readPlace, runNumber, runPlace}
+use Rattle.rules.specs.Numbers.{maxEntries, readNumber, readPlace, runNumber, runPlace}
+use Rattle.rules.specs.Text.{Sizes}
 use Rattle.rules.specs.Reading.{readingOf, Reads}
-use Rattle.rules.specs.Answer.{Given, reportOf, Runs}
+use Rattle.rules.specs.Grammar.{Dimacs}
+use Rattle.rules.specs.Meaning.{LitUpTo, clauses}
+use Rattle.rules.specs.Models.{NoModel, Forced, Free, WitnessOf}
+use Rattle.rules.specs.Run.{statusAt, isForcedTo}
+use Rattle.rules.specs.Answer.{Given, given, taskOf, reportOf, Runs}
+use Rattle.rules.specs.RunRefusals.{Lent, Accepted}
+use Rattle.rules.proofs.ReadingTheorems.{read-accepts, read-accepted}
+use Rattle.rules.proofs.TextTheorems.{dimacs-runs}
+use Rattle.backbone.proofs.Promises as run
 use Rattle.igbezolum.specs.declared.IgbReading.{IgbReading}
 use Rattle.igbezolum.specs.declared.IgbReport.{IgbReport}
 use Rattle.igbezolum.specs.Linked.{readingNumbers, reportNumbers, ReadsIn, RunsIn}
@@ -108,3 +123,79 @@ reads-back {text = text} {before = before} d =
 pub runs-back : {g : Given} {n : IgbReport} {status log : List ℕ} → RunsIn g n status log → Runs g (reportFrom n) status log
 runs-back {g = g} d =
     record { result-is = ap reportFrom (d .result-is) ∙ report-back (reportOf g); status-is = d .status-is; log-is = d .log-is }
+
+-- ---- a text that is accepted
+
+-- the grammar derives the text, with V and C as returned, and its entries stand at the front of the buffer
+pub record CardRead (text : List ℕ) (n : IgbReading) (after : List ℤ) : Type 0 where
+  pub entries : List ℤ
+  pub derived : Dimacs text (n .vars) (n .clauses) entries
+  pub stands : take (n .count) after ≡ entries
+
+card-of : {text : List ℕ} {before after : List ℤ} {n : IgbReading} → ReadsIn text before n after → maxEntries ≤ length before → (s : Sizes) (es : List ℤ) → Dimacs text (s .vars) (s .clauses) es → CardRead text n after
+card-of {text = text} {before = before} {after = after} {n = n} w room s es d =
+    let (e, f) = read-accepts text before room s es .0 d in
+    let same : n ≡ readingNumbers (record { answer = ReadAnswer.Accepted; vars = s .vars; clauses = s .clauses; entries = length es }) = w .result-is ∙ ap readingNumbers e in
+    record {
+      entries = es;
+      derived = rw (ap (λ (m : IgbReading). m .vars) same, ap (λ (m : IgbReading). m .clauses) same) d;
+      stands =
+          ap (λ (m : IgbReading). take (m .count) after) same ∙ ap (take (length es)) (w .after-is ∙ f ∙ append-assoc es (replicate (maxEntries - length es) (pos 0)) (drop maxEntries before)) ∙
+          take-append-seam es (replicate (maxEntries - length es) (pos 0) ++ drop maxEntries before);
+    }
+
+module _ {text : List ℕ} {before after : List ℤ} {n : IgbReading} (w : ReadsIn text before n after) (z : n .answer ≡ 0) where
+  is-accepted : readingOf text before .answer ≡ ReadAnswer.Accepted
+  is-accepted =
+      sym (ap (λ (q : Reading). q .answer) (reads-back w .result-is)) ∙ ap (λ (k : ℕ). readAnswer k (n .place)) z
+
+  pub read-card : CardRead text n after
+  read-card = let (room, s, es, d) = read-accepted text before is-accepted in card-of w room s es d
+
+  -- with buffers that are long enough and limits that are allowed the run of what was read is not refused
+  pub card-runs : (budget limit : ℕ) (status log : List ℕ) → Lent (given (take (n .count) after) (n .vars) budget limit status log) → Accepted (given (take (n .count) after) (n .vars) budget limit status log)
+  card-runs budget limit status log l =
+      let c = read-card in
+      dimacs-runs (given (take (n .count) after) (n .vars) budget limit status log) (rw (← c .stands) at (c .derived)) l
+
+-- ---- what a run says of models
+
+module _ {g : Given} {n : IgbReport} {status log : List ℕ} (w : RunsIn g n status log) where
+  answer-of : (k : ℕ) → n .answer ≡ k → reportFrom n .answer ≡ runAnswer k (n .place)
+  answer-of k e = ap (λ (m : ℕ). runAnswer m (n .place)) e
+
+  settled-accepted : n .answer ≡ 0 → Accepted g
+  settled-accepted e = run.answered (runs-back w) .0 (ap run.isAnswered (answer-of 0 e))
+
+  -- after 0 a literal is marked forced exactly if a model exists and all models contain it
+  pub settled-forced : n .answer ≡ 0 → (l : ℤ) → LitUpTo (g .vars) l → isForcedTo (take (g .vars) status) l ↔ Forced (g .vars) (clauses (g .entries)) l
+  settled-forced e = run.settled-forced (runs-back w) (settled-accepted e) (answer-of 0 e)
+
+  -- and a variable is marked free exactly if two models differ on it
+  pub settled-free : n .answer ≡ 0 → (i : ℕ) → i < g .vars → (statusAt (take (g .vars) status) i ≡ 1) ↔ Free (g .vars) (clauses (g .entries)) i
+  settled-free e = run.settled-free (runs-back w) (settled-accepted e) (answer-of 0 e)
+
+  module _ (h : Accepted g) where
+    number-is : n .answer ≡ runNumber (reportFrom n .answer)
+    number-is = ap (λ (m : IgbReport). m .answer) (w .result-is) ∙ ap (λ (r : Report). runNumber (r .answer)) (sym (runs-back w .result-is))
+
+    -- unless the budget stopped the run, 20 is answered exactly if there is no model
+    pub no-model-exactly : n .answer ≢ 21 → (n .answer ≡ 20) ↔ NoModel (g .vars) (clauses (g .entries))
+    no-model-exactly ne =
+        let both = run.no-model-exactly (runs-back w) h (λ e. ne (number-is ∙ ap runNumber e)) in
+        (λ e. both .0 (answer-of 20 e), λ m. number-is ∙ ap runNumber (both .1 m))
+
+    -- however it ended: a literal marked forced is in all models, and there is one
+    pub forced-sound : (l : ℤ) → LitUpTo (g .vars) l → isForcedTo (take (g .vars) status) l → Forced (g .vars) (clauses (g .entries)) l
+    forced-sound = run.forced-sound (runs-back w) h
+
+    -- and a variable marked free has its witness against the run's first model
+    pub free-witness : (i : ℕ) → i < g .vars → statusAt (take (g .vars) status) i ≡ 1 → WitnessOf (g .vars) (clauses (g .entries)) (Rattle.rules.specs.Run.run (taskOf g) .progress .models) i
+    free-witness = run.free-witness (runs-back w) h
+
+    pub calls-most : n .calls ≤ g .vars + 1
+    calls-most = run.calls-most (runs-back w) h
+
+    -- all of the budget is spent where the run was stopped
+    pub tries-most : (n .tries ≤ g .budget) × (n .answer ≡ 21 → n .tries ≡ g .budget)
+    tries-most = let (m, f) = run.tries-most (runs-back w) h in (m, λ e. f (answer-of 21 e))
