@@ -1,20 +1,9 @@
 //! The library through its C interface, and the peers that were found when this was built (cfg `cadical`, `picosat`).
 
-use crate::plain::{self, Reading, Report};
+use crate::plain;
+use crate::raw::{self, Reading, Report};
 
 extern "C" {
-    fn igb_read(text: *const u8, text_len: usize, entries: *mut i32, entries_len: usize) -> Reading;
-    fn igb_run(
-        entries: *const i32,
-        entries_len: usize,
-        vars: u32,
-        budget: u32,
-        chunk_limit: u32,
-        status: *mut u8,
-        status_len: usize,
-        log: *mut u32,
-        log_len: usize,
-    ) -> Report;
     fn bench_stack(entries: *const i32, entries_len: usize, vars: u32, budget: u32, chunk_limit: u32) -> usize;
 }
 
@@ -90,22 +79,9 @@ impl Who {
     pub fn run(self, f: &Formula, budget: u32, chunk_limit: u32, lent: &mut Lent) -> Report {
         let Lent { status, log } = lent;
         match self {
-            // SAFETY: every pointer goes with the length of the slice that it comes from.
-            Who::Library => unsafe {
-                igb_run(
-                    f.entries.as_ptr(),
-                    f.entries.len(),
-                    f.vars,
-                    budget,
-                    chunk_limit,
-                    status.as_mut_ptr(),
-                    status.len(),
-                    log.as_mut_ptr(),
-                    log.len(),
-                )
-            },
+            Who::Library => raw::run(&f.entries, f.vars, budget, chunk_limit, status, log),
             Who::Plain => plain::run(&f.entries, f.vars, budget, chunk_limit, status, log),
-            // SAFETY: as above; a status byte is written for each variable, and there are at most 256.
+            // SAFETY: the pointers go with the lengths of their slices; a status byte is written for each variable, and there are at most 256.
             #[cfg(cadical)]
             Who::Cadical => unsafe {
                 let answer = bench_cadical(f.entries.as_ptr(), f.entries.len(), f.vars, status.as_mut_ptr());
@@ -122,8 +98,7 @@ impl Who {
     /// Peers do not read by the same rules, so that only the first two are asked.
     pub fn read(self, text: &[u8], entries: &mut [i32]) -> Reading {
         match self {
-            // SAFETY: every pointer goes with the length of the slice that it comes from.
-            Who::Library => unsafe { igb_read(text.as_ptr(), text.len(), entries.as_mut_ptr(), entries.len()) },
+            Who::Library => raw::read(text, entries),
             _ => plain::read(text, entries),
         }
     }

@@ -7,6 +7,10 @@
 mod library;
 mod plain;
 mod plot;
+// how a table is printed is not measured
+#[allow(dead_code)]
+#[path = "../../rust/src/raw.rs"]
+mod raw;
 mod report;
 mod workloads;
 

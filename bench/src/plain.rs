@@ -1,32 +1,13 @@
 //! The rules in plain safe Rust, as one would write them with no proof in mind: clauses are slices of the entry list, and at every
 //! look their literals are counted anew. It takes and fills the same buffers as the library, and gives the same numbers and log.
 
+use crate::raw::{Reading, Report};
+
 const MAX_TEXT: usize = 32_768;
 const MAX_VARS: u32 = 256;
 const MAX_CLAUSES: u32 = 1_024;
 const MAX_ENTRIES: usize = 4_096;
 const MAX_CHUNK: u32 = 256;
-
-#[derive(Clone, Copy, Debug, Default, PartialEq, Eq)]
-#[repr(C)]
-pub struct Reading {
-    pub answer: u32,
-    pub place: u32,
-    pub vars: u32,
-    pub clauses: u32,
-    pub count: u32,
-}
-
-#[derive(Clone, Copy, Debug, Default, PartialEq, Eq)]
-#[repr(C)]
-pub struct Report {
-    pub answer: u32,
-    pub place: u32,
-    pub calls: u32,
-    pub tries: u32,
-    pub forced: u32,
-    pub free: u32,
-}
 
 /// A refusal: its number and its place.
 type Refusal = (u32, usize);

@@ -1,14 +1,10 @@
 /* How many bytes of stack a run touches: it is made on a thread whose stack was painted, and what is no longer painted is counted.
    Less the bytes of a thread that does nothing. Returns 0 if no such thread could be made. */
+#include <igbezolum.h>
 #include <pthread.h>
-#include <stddef.h>
-#include <stdint.h>
 #include <stdlib.h>
 #include <string.h>
 
-typedef struct { uint32_t answer, place, calls, tries, forced, free; } igb_report;
-igb_report igb_run(const int32_t *entries, size_t entries_len, uint32_t vars, uint32_t budget, uint32_t chunk_limit, uint8_t *status,
-                   size_t status_len, uint32_t *log, size_t log_len);
 size_t bench_stack(const int32_t *entries, size_t entries_len, uint32_t vars, uint32_t budget, uint32_t chunk_limit);
 
 enum { STACK = 8 << 20, PAINT = 0xA5 };
@@ -17,15 +13,15 @@ typedef struct {
     const int32_t *entries;
     size_t entries_len;
     uint32_t vars, budget, chunk_limit;
-    uint8_t status[256];
-    uint32_t log[6 * 257];
+    uint8_t status[IGB_STATUS_LEN];
+    uint32_t log[IGB_LOG_LEN];
 } task;
 
 static void *nothing(void *given) { return given; }
 
 static void *one_run(void *given) {
     task *t = given;
-    igb_run(t->entries, t->entries_len, t->vars, t->budget, t->chunk_limit, t->status, sizeof t->status, t->log, 6 * 257);
+    igb_run(t->entries, t->entries_len, t->vars, t->budget, t->chunk_limit, t->status, IGB_STATUS_LEN, t->log, IGB_LOG_LEN);
     return given;
 }
 

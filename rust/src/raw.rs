@@ -3,7 +3,7 @@
 
 /// What [`read`] answers; `include/igbezolum.h` has the same as `igb_reading`.
 #[repr(C)]
-#[derive(Clone, Copy, Debug, PartialEq, Eq)]
+#[derive(Clone, Copy, Debug, Default, PartialEq, Eq)]
 pub struct Reading {
     /// 0 if the text is accepted, else the number of the refusal.
     pub answer: u32,
@@ -19,7 +19,7 @@ pub struct Reading {
 
 /// What [`run`] answers; `include/igbezolum.h` has the same as `igb_report`.
 #[repr(C)]
-#[derive(Clone, Copy, Debug, PartialEq, Eq)]
+#[derive(Clone, Copy, Debug, Default, PartialEq, Eq)]
 pub struct Report {
     /// 0 settled, 20 no model, 21 stopped, else the number of the refusal.
     pub answer: u32,
