@@ -19,8 +19,8 @@ use Rattle.rules.specs.Run.{Task, run}
 use Rattle.rules.specs.Answer.{Given, logLength, refusalOf, taskOf, reportIf, reportOf, statusIf, statusAfter, logOfRows, logIf, logAfter, Runs}
 use Rattle.rules.specs.RunRefusals.{Accepted}
 use Rattle.rules.proofs.RefusedRuns.{run-accepted}
-use Rattle.steps.specs.declared.refuse.Refusal.the-variants.{Accepted as NotRefused, Refused}
-use Rattle.steps.specs.Refuse.{found}
+use Rattle.refusals.specs.declared.Refusal.the-variants.{Accepted as NotRefused, Refused}
+use Rattle.refusals.specs.Refuse.{found}
 use Rattle.chunks.specs.Calls.{task}
 use Rattle.backbone.specs.First.{RunDone, Listing}
 

@@ -15,16 +15,16 @@ pub fn run(
 ) -> rules::Report
     ensures { λ r. ⌜ Runs (given (now (entries .entry)) vars budget «chunk_limit» (now (status .entry)) (now (log .entry))) r (now (status .exit)) (now (log .exit)) ⌝ }
 {
-    let refusal = steps::refuse::refuse(entries, vars, chunk_limit, status, log);
+    let refusal = refusals::refuse(entries, vars, chunk_limit, status, log);
     match refusal {
-        steps::refuse::Refusal::Refused(answer) => rules::Report {
+        refusals::Refusal::Refused(answer) => rules::Report {
             answer: answer,
             calls: 0,
             tries: 0,
             forced: 0,
             free: 0,
         },
-        steps::refuse::Refusal::Accepted => {
+        refusals::Refusal::Accepted => {
             let n = vars as usize;
             first::accepted_run(
                 entries,

@@ -4,5 +4,3 @@ pub mod FillLaws
 pub mod ChunkLaws
 pub mod FlipLaws
 pub mod ConstraintLaws
-pub mod RefuseLaws
-pub mod FoundLaws

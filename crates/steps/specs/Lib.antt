@@ -3,4 +3,3 @@ pub mod Filter
 pub mod Chunk
 pub mod Flip
 pub mod Constraint
-pub mod Refuse

@@ -2,8 +2,8 @@
 use mathlib.Core.Path.{_≡_, sym, _∙_}
 use borrow.Author.Needs.{needs}
 use Rattle.rules.specs.Answer.{Given, given, refusalOf}
-use Rattle.steps.specs.declared.refuse.Refusal.the-variants.{Accepted}
-use Rattle.steps.specs.Refuse.{found}
+use Rattle.refusals.specs.declared.Refusal.the-variants.{Accepted}
+use Rattle.refusals.specs.Refuse.{found}
 use Rattle.backbone.proofs.ListingLaws.{front-len}
 use Rattle.backbone.proofs.RunLaws.{accepted, listing, runs-refused, runs-accepted}
 use Rattle.backbone.proofs.run.Statement.{statement}

@@ -1,4 +1,4 @@
--- `refuse::refuse_list` meets its contract: each way out by the law of its rule. Assumes nothing.
+-- `refuse_list` meets its contract: each way out by the law of its rule. Assumes nothing.
 use mathlib.Core.Path.{_≡_, sym, _∙_, ap}
 use Prim.Native.Nat.{_≤_}
 use native.Mathlib.Omega.{arith}
@@ -10,9 +10,9 @@ use Rattle.rules.specs.Lists.{nthIndex}
 use Rattle.rules.specs.Numbers.{maxEntries, maxClauses}
 use Rattle.rules.specs.Reading.{isZero}
 use Rattle.rules.specs.Answer.{Given, isEnded}
-use Rattle.steps.proofs.FoundLaws.{list-long-found, not-ended-found, zero-over-found, above-found, list-found}
-use Rattle.steps.proofs.refuse.refuse_list.Statement.{statement}
-use Rattle.steps.proofs.refuse.refuse_list.Tie as tie
+use Rattle.refusals.proofs.FoundLaws.{list-long-found, not-ended-found, zero-over-found, above-found, list-found}
+use Rattle.refusals.proofs.refuse_list.Statement.{statement}
+use Rattle.refusals.proofs.refuse_list.Tie as tie
 
 returns : tie.Need-returns
 returns c = λ g es vs w. list-long-found g w (rw es (c .if1 .taken))

@@ -25,10 +25,10 @@ use Rattle.rules.specs.RunRefusals.{Lent, Listed, Accepted, RunRefuses, list-lo
 use Rattle.rules.proofs.ListLaws.{none-of-any, count-zero, eqz-sound}
 use Rattle.rules.proofs.AnswerLaws.{Nth, nthIndex-split, isEnded-last}
 use Rattle.rules.proofs.RefusedRuns.{run-refused, run-accepted}
-use Rattle.steps.specs.declared.refuse.Refusal.{Refusal}
-use Rattle.steps.specs.declared.refuse.Refusal.the-variants as refusal
-use Rattle.steps.specs.Refuse.{found}
-use Rattle.steps.proofs.RefuseLaws.{nthIndex-none}
+use Rattle.refusals.specs.declared.Refusal.{Refusal}
+use Rattle.refusals.specs.declared.Refusal.the-variants as refusal
+use Rattle.refusals.specs.Refuse.{found}
+use Rattle.refusals.proofs.RefuseLaws.{nthIndex-none}
 
 pub refused-is : (g : Given) {a : RunAnswer} → RunRefuses g a → refusal.Refused a ≡ found (refusalOf g)
 refused-is g {a} r = ap found (sym (run-refused g a .1 r))

@@ -1,12 +1,12 @@
--- `refuse::is_ended` meets its contract: the last entry is looked at, if there is one. Assumes nothing.
+-- `is_ended` meets its contract: the last entry is looked at, if there is one. Assumes nothing.
 use mathlib.Core.Path.{_≡_, refl, sym, _∙_}
 use Prim.Native.Nat.{_-_}
 use lib.IntN.{pos}
 use lib.ListN.{length, getD}
 use borrow.Author.Needs.{needs}
-use Rattle.steps.proofs.RefuseLaws.{isZero-bits, isEnded-read, isEnded-empty}
-use Rattle.steps.proofs.refuse.is_ended.Statement.{statement}
-use Rattle.steps.proofs.refuse.is_ended.Tie as tie
+use Rattle.refusals.proofs.RefuseLaws.{isZero-bits, isEnded-read, isEnded-empty}
+use Rattle.refusals.proofs.is_ended.Statement.{statement}
+use Rattle.refusals.proofs.is_ended.Tie as tie
 
 returns : tie.Need-returns
 returns c = isEnded-empty (c .before .args .entries .now) (c .if1 .taken)

@@ -1,4 +1,4 @@
--- `refuse::first_above` meets its contract. The invariant of its loop: the index looked for is that in what is left. The measure is
+-- `first_above` meets its contract. The invariant of its loop: the index looked for is that in what is left. The measure is
 -- what is left. Assumes nothing.
 use mathlib.Core.Path.{_≡_, refl, sym, _∙_, ap}
 use Prim.Native.Nat.{ℕ, _-_}
@@ -11,9 +11,9 @@ use lib.ListN.{length, getD}
 use Rattle.rules.specs.Meaning.{varOf}
 use Rattle.formula.proofs.SignedLaws.{toZ-ofZ-at}
 use Rattle.rules.specs.Answer.{isAbove}
-use Rattle.steps.proofs.RefuseLaws.{Seek, seek-start, seek-pass, seek-found, seek-done}
-use Rattle.steps.proofs.refuse.first_above.Statement.{statement}
-use Rattle.steps.proofs.refuse.first_above.Tie as tie
+use Rattle.refusals.proofs.RefuseLaws.{Seek, seek-start, seek-pass, seek-found, seek-done}
+use Rattle.refusals.proofs.first_above.Statement.{statement}
+use Rattle.refusals.proofs.first_above.Tie as tie
 
 abbrev Inv-loop : tie.InvT-loop
 Inv-loop entries vars i₀ i = Seek (isAbove vars) entries 0 0 i

@@ -7,7 +7,7 @@ ghost use Rattle.rules.specs.Lists.{nthIndex};
 ghost use Rattle.rules.specs.Reading.{isZero};
 ghost use Rattle.rules.specs.Answer.{Given, given, logLength, isEnded, isAbove, refusalOf};
 ghost use Rattle.rules.specs.RunRefusals.{Lent};
-ghost use Rattle.steps.specs.Refuse.{found};
+ghost use Rattle.refusals.specs.Refuse.{found};
 
 // Why a run is refused, if it is.
 pub enum Refusal {

@@ -1,4 +1,4 @@
--- `refuse::nth_zero` meets its contract. The invariant of its loop: the index looked for is that in what is left. The measure is what
+-- `nth_zero` meets its contract. The invariant of its loop: the index looked for is that in what is left. The measure is what
 -- is left. Assumes nothing.
 use mathlib.Core.Path.{_≡_, sym, _∙_}
 use Prim.Native.Nat.{_-_}
@@ -7,9 +7,9 @@ use borrow.Author.Needs.{needs}
 use lib.IntN.{ℤ, pos}
 use lib.ListN.{length, getD}
 use Rattle.rules.specs.Reading.{isZero}
-use Rattle.steps.proofs.RefuseLaws.{Seek, seek-start, seek-pass, seek-count, seek-found, seek-done, isZero-same, isZero-other}
-use Rattle.steps.proofs.refuse.nth_zero.Statement.{statement}
-use Rattle.steps.proofs.refuse.nth_zero.Tie as tie
+use Rattle.refusals.proofs.RefuseLaws.{Seek, seek-start, seek-pass, seek-count, seek-found, seek-done, isZero-same, isZero-other}
+use Rattle.refusals.proofs.nth_zero.Statement.{statement}
+use Rattle.refusals.proofs.nth_zero.Tie as tie
 
 abbrev Inv-loop : tie.InvT-loop
 Inv-loop entries n left₀ i₀ left i = Seek isZero entries n left i

@@ -1,13 +1,13 @@
--- `refuse::refuse` meets its contract: each way out by the rule that it keeps. Assumes nothing.
+-- `refuse` meets its contract: each way out by the rule that it keeps. Assumes nothing.
 use mathlib.Core.Path.{refl}
 use mathlib.Core.Logic.{inl, inr}
 use native.Mathlib.Omega.{arith}
 use borrow.Author.Needs.{needs}
 use Rattle.rules.specs.Answer.{given}
 use Rattle.rules.specs.RunRefusals.{InLimits, Lent, out-of-limits, buffer-short}
-use Rattle.steps.proofs.FoundLaws.{refused-is}
-use Rattle.steps.proofs.refuse.refuse.Statement.{statement}
-use Rattle.steps.proofs.refuse.refuse.Tie as tie
+use Rattle.refusals.proofs.FoundLaws.{refused-is}
+use Rattle.refusals.proofs.refuse.Statement.{statement}
+use Rattle.refusals.proofs.refuse.Tie as tie
 
 returns : tie.Need-returns
 returns c = λ b. refused-is _ (out-of-limits (inl (c .if1 .taken)))

@@ -1,0 +1,2 @@
+-- What a refusal in code says.
+pub mod Refuse
