@@ -1,3 +1,1 @@
-pub mod PutLaws
-pub mod LineLaws
 pub mod TableLaws

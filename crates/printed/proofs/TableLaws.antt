@@ -38,9 +38,9 @@ use Rattle.rules.proofs.RefusedRuns.{run-accepted}
 use Rattle.rules.proofs.RefusalLaws.{refusal-sound}
 use Rattle.rules.proofs.PrintedLaws.{table-runs}
 use Rattle.rules.proofs.TableLaws.{length-tableOf}
-use Rattle.printed.specs.Put.{Room, Put}
+use Rattle.lines.specs.Put.{Room, Put}
 use Rattle.printed.specs.Table.{sizes, listGiven, tableOfList, ListReady, Sized, Ended, TableReady}
-use Rattle.printed.proofs.PutLaws.{putAt-front, room-first, room-same, put-same}
+use Rattle.lines.proofs.PutLaws.{putAt-front, room-first, room-same, put-same}
 
 -- ---- by the number of the answer
 

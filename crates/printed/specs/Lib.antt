@@ -1,3 +1,1 @@
-pub mod Put
-pub mod Lines
 pub mod Table

@@ -12,7 +12,7 @@ use Rattle.rules.specs.Reading.{accepted}
 use Rattle.rules.specs.Answer.{Given, logLength}
 use Rattle.rules.specs.RunRefusals.{Accepted}
 use Rattle.rules.specs.Printed.{tableOfRun, tableGiven, tableOfJudged}
-use Rattle.printed.specs.Put.{Room}
+use Rattle.lines.specs.Put.{Room}
 
 -- the number of clauses is not looked at
 abbrev pub sizes : ℕ → Sizes

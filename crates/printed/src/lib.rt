@@ -1,8 +1,6 @@
 // The table of a text (document 01, "The table program"), put into a buffer that is lent.
 ghost use Rattle.rules.specs.Printed.{Prints};
 
-mod line;
-mod put;
 mod table;
 
 // Puts the table of a text at the start of a buffer and answers how many bytes it has. No table is longer than 4,096 bytes; in a

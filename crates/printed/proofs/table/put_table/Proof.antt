@@ -5,7 +5,7 @@ use Prim.Native.Nat.{ℕ}
 use native.Mathlib.Omega.{arith}
 use borrow.Author.Needs.{needs}
 use Rattle.rules.specs.Printed.{answerLine, statusLines, tableOfRun}
-use Rattle.printed.proofs.PutLaws.{room-then, room-same, put-then, put-same}
+use Rattle.lines.proofs.PutLaws.{room-then, room-same, put-then, put-same}
 use Rattle.printed.proofs.TableLaws.{table-room, table-first, table-lines}
 use Rattle.printed.proofs.table.put_table.Statement.{statement}
 use Rattle.printed.proofs.table.put_table.Tie as tie

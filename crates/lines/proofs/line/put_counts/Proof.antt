@@ -4,10 +4,10 @@ use Prim.Native.Nat.{ℕ}
 use borrow.Author.Needs.{needs}
 use Rattle.rules.specs.Plain.{decimal}
 use Rattle.rules.specs.Printed.{answerWord, callsWord, triesWord}
-use Rattle.printed.specs.Put.{Room}
-use Rattle.printed.proofs.PutLaws.{room-first, room-then, put-then}
-use Rattle.printed.proofs.line.put_counts.Statement.{statement}
-use Rattle.printed.proofs.line.put_counts.Tie as tie
+use Rattle.lines.specs.Put.{Room}
+use Rattle.lines.proofs.PutLaws.{room-first, room-then, put-then}
+use Rattle.lines.proofs.line.put_counts.Statement.{statement}
+use Rattle.lines.proofs.line.put_counts.Tie as tie
 
 -- what stands behind the number, and its room
 abbrev behind-number : tie.Start → List ℕ

@@ -3,9 +3,9 @@
 use Prim.Native.Nat.{_-_}
 use borrow.Author.Needs.{needs}
 use lib.ListN.{length}
-use Rattle.printed.proofs.LineLaws.{Lining, lining-start, lining-room, lining-step, lining-done}
-use Rattle.printed.proofs.line.put_lines.Statement.{statement}
-use Rattle.printed.proofs.line.put_lines.Tie as tie
+use Rattle.lines.proofs.LineLaws.{Lining, lining-start, lining-room, lining-step, lining-done}
+use Rattle.lines.proofs.line.put_lines.Statement.{statement}
+use Rattle.lines.proofs.line.put_lines.Tie as tie
 
 abbrev Inv-loop : tie.InvT-loop
 Inv-loop out₀ at status next₀ i₀ out next i = Lining status at out₀ i next out

@@ -5,12 +5,12 @@ use Prim.Native.Nat.{ℕ, _-_}
 use borrow.Author.Needs.{needs}
 use Rattle.rules.specs.Numbers.{runNumber}
 use Rattle.rules.specs.Printed.{answerLine}
-use Rattle.printed.specs.Put.{Room}
-use Rattle.printed.specs.Lines.{countFields, endFields}
-use Rattle.printed.proofs.PutLaws.{room-first, room-then, room-same, put-then, put-same}
-use Rattle.printed.proofs.LineLaws.{answer-line}
-use Rattle.printed.proofs.line.put_answer.Statement.{statement}
-use Rattle.printed.proofs.line.put_answer.Tie as tie
+use Rattle.lines.specs.Put.{Room}
+use Rattle.lines.specs.Lines.{countFields, endFields}
+use Rattle.lines.proofs.PutLaws.{room-first, room-then, room-same, put-then, put-same}
+use Rattle.lines.proofs.LineLaws.{answer-line}
+use Rattle.lines.proofs.line.put_answer.Statement.{statement}
+use Rattle.lines.proofs.line.put_answer.Tie as tie
 
 run-number-requires : tie.Need-run-number-requires
 run-number-requires c κs = search needs

@@ -4,12 +4,12 @@ use mathlib.Core.List.{List, [], _∷_, _++_}
 use borrow.Author.Needs.{needs}
 use Rattle.rules.specs.Plain.{decimal}
 use Rattle.rules.specs.Printed.{refusedWord, placeWord}
-use Rattle.printed.specs.Put.{Room}
-use Rattle.printed.specs.Lines.{refusedFields}
-use Rattle.printed.proofs.PutLaws.{room-first, room-then, room-same, put-then, put-same}
-use Rattle.printed.proofs.LineLaws.{refused-line}
-use Rattle.printed.proofs.line.put_refused.Statement.{statement}
-use Rattle.printed.proofs.line.put_refused.Tie as tie
+use Rattle.lines.specs.Put.{Room}
+use Rattle.lines.specs.Lines.{refusedFields}
+use Rattle.lines.proofs.PutLaws.{room-first, room-then, room-same, put-then, put-same}
+use Rattle.lines.proofs.LineLaws.{refused-line}
+use Rattle.lines.proofs.line.put_refused.Statement.{statement}
+use Rattle.lines.proofs.line.put_refused.Tie as tie
 
 -- the room at the start, and behind the number
 room : (s : tie.Start) → Room (s .args .at) (refusedFields (s .args .number) (s .args .place)) (s .args .out .now)

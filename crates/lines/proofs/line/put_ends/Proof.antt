@@ -4,10 +4,10 @@ use Prim.Native.Nat.{ℕ}
 use borrow.Author.Needs.{needs}
 use Rattle.rules.specs.Plain.{decimal}
 use Rattle.rules.specs.Printed.{forcedWord, freeWord, openWord}
-use Rattle.printed.specs.Put.{Room}
-use Rattle.printed.proofs.PutLaws.{room-first, room-then, put-then}
-use Rattle.printed.proofs.line.put_ends.Statement.{statement}
-use Rattle.printed.proofs.line.put_ends.Tie as tie
+use Rattle.lines.specs.Put.{Room}
+use Rattle.lines.proofs.PutLaws.{room-first, room-then, put-then}
+use Rattle.lines.proofs.line.put_ends.Statement.{statement}
+use Rattle.lines.proofs.line.put_ends.Tie as tie
 
 -- the fields, what stands behind them, and its room
 abbrev forcedField : tie.Start → List ℕ

@@ -2,7 +2,7 @@
 ghost use Prim.Native.Nat.{_+_};
 ghost use mathlib.Core.List.{List, [], _∷_, _++_};
 ghost use Rattle.rules.specs.Plain.{decimal};
-ghost use Rattle.printed.specs.Put.{Put, Room};
+ghost use Rattle.lines.specs.Put.{Put, Room};
 
 // One byte.
 pub fn put_byte(out: &mut [u8], at: usize, byte: u8) -> usize

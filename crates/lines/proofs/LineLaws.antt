@@ -17,9 +17,9 @@ use Rattle.rules.specs.declared.Report.{Report}
 use Rattle.rules.specs.Numbers.{runNumber}
 use Rattle.rules.specs.Plain.{decimal}
 use Rattle.rules.specs.Printed.{answerWord, callsWord, triesWord, forcedWord, freeWord, openWord, offWord, refusedWord, placeWord, refusedLine, answerLine, statusWords, statusLines}
-use Rattle.printed.specs.Put.{Room, Put}
-use Rattle.printed.specs.Lines.{countFields, endFields, refusedFields, statusLine}
-use Rattle.printed.proofs.PutLaws.{length-put, room-first, room-then, room-same, put-then, put-same, put-none}
+use Rattle.lines.specs.Put.{Room, Put}
+use Rattle.lines.specs.Lines.{countFields, endFields, refusedFields, statusLine}
+use Rattle.lines.proofs.PutLaws.{length-put, room-first, room-then, room-same, put-then, put-same, put-none}
 
 -- ---- fields
 

@@ -3,10 +3,10 @@ use mathlib.Core.List.{[], _∷_, _++_}
 use borrow.Author.Needs.{needs}
 use Rattle.rules.specs.Plain.{decimal}
 use Rattle.rules.specs.Printed.{statusWords}
-use Rattle.printed.specs.Put.{Room}
-use Rattle.printed.proofs.PutLaws.{room-first, room-then, put-then}
-use Rattle.printed.proofs.line.put_variable.Statement.{statement}
-use Rattle.printed.proofs.line.put_variable.Tie as tie
+use Rattle.lines.specs.Put.{Room}
+use Rattle.lines.proofs.PutLaws.{room-first, room-then, put-then}
+use Rattle.lines.proofs.line.put_variable.Statement.{statement}
+use Rattle.lines.proofs.line.put_variable.Tie as tie
 
 put-decimal-requires : tie.Need-put-decimal-requires
 put-decimal-requires c κs =

@@ -4,9 +4,9 @@ use Prim.Native.Nat.{_-_}
 use native.Mathlib.Omega.{arith}
 use borrow.Author.Needs.{needs}
 use lib.ListN.{length}
-use Rattle.printed.proofs.PutLaws.{Putting, putting-start, putting-step, putting-done}
-use Rattle.printed.proofs.put.put_word.Statement.{statement}
-use Rattle.printed.proofs.put.put_word.Tie as tie
+use Rattle.lines.proofs.PutLaws.{Putting, putting-start, putting-step, putting-done}
+use Rattle.lines.proofs.put.put_word.Statement.{statement}
+use Rattle.lines.proofs.put.put_word.Tie as tie
 
 abbrev Inv-loop : tie.InvT-loop
 Inv-loop out₀ at word i₀ out i = Putting word at out₀ i out

@@ -3,10 +3,10 @@ use mathlib.Core.Path.{sym, ap}
 use native.Mathlib.Omega.{arith}
 use borrow.Author.Needs.{needs}
 use Rattle.rules.specs.Printed.{statusWords}
-use Rattle.printed.proofs.PutLaws.{room-same, put-same}
-use Rattle.printed.proofs.LineLaws.{words-off}
-use Rattle.printed.proofs.line.put_status.Statement.{statement}
-use Rattle.printed.proofs.line.put_status.Tie as tie
+use Rattle.lines.proofs.PutLaws.{room-same, put-same}
+use Rattle.lines.proofs.LineLaws.{words-off}
+use Rattle.lines.proofs.line.put_status.Statement.{statement}
+use Rattle.lines.proofs.line.put_status.Tie as tie
 
 slice-aggregate-put-word : tie.Need-slice-aggregate-put-word
 slice-aggregate-put-word c = search needs
