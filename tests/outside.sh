@@ -1,7 +1,7 @@
 #!/usr/bin/env bash
 # The library against the rules written a second time (tests/outside), through its C interface, on what `rt staticlib igbezolum` built.
 # First every fault that the comparison knows is put into what the library gave, and must be noticed; then a short comparison under
-# valgrind, and the long one. Words: SEED and how many cases (1 and 100,000 if none are given).
+# valgrind, and the long one. Words: SEED and how many cases (1 and 60,000 if none are given).
 cd "$(dirname "$0")/.." || exit 2
 PATH=$PATH:${HOME:-/root}/.cargo/bin
 archive=target/staticlib/libigbezolum.a
@@ -31,4 +31,4 @@ if command -v valgrind >/dev/null 2>&1; then
 else
     echo "outside: valgrind is not here: left out"
 fi
-"$outside" "$cases" "${1:-1}" "${2:-100000}"
+"$outside" "$cases" "${1:-1}" "${2:-60000}"
