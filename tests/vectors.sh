@@ -11,4 +11,6 @@ files=("${names[@]/#/crates/vectors/data/}")
 echo "vectors: ${#names[@]} tables as they are stored"
 if command -v picosat >/dev/null 2>&1; then
     "$reference" --solver picosat "${files[@]}"
+else
+    echo "vectors: picosat is not here: it is not asked"
 fi
