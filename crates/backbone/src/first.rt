@@ -1,4 +1,4 @@
-// The first call of a run (document 01, "Run"), on the formula alone, and what follows from it.
+// The first call of a run (docs/RULES.md, "Run"), on the formula alone, and what follows from it.
 ghost use mathlib.Core.Path.{_≡_};
 ghost use mathlib.Core.List.{List};
 ghost use lib.IntN.{ℤ};

@@ -1,9 +1,9 @@
-// The backbone run: which literals every model contains, which variables are free (document 01, "Run").
+// The backbone run: which literals every model contains, which variables are free (docs/RULES.md, "Run").
 ghost use Rattle.rules.specs.Answer.{given, Runs};
 
 mod first;
 
-// A run (document 01, "Run" and "What comes back"): for each of the variables 1 to vars, whether it is forced or free, and a row for
+// A run (docs/RULES.md, "Run" and "What comes back"): for each of the variables 1 to vars, whether it is forced or free, and a row for
 // each call. Every list, every pair of buffers and every limit is answered; what is refused writes nothing.
 pub fn run(
     entries: &[i32],

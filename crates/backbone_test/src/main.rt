@@ -1,4 +1,4 @@
-// The run on the small formulas of document 01, "Small formulas, whole", and on what it refuses ("What comes back"). A line a run: its
+// The run on the small formulas of docs/RULES.md, "Small formulas", and on what it refuses ("What comes back"). A line a run: its
 // name, number and place, calls, tries, forced and free, the status bytes, the rows of the calls begun, and how many bytes and numbers
 // of the two buffers are still 7, which all of them were before. `crates/backbone_test/stdout` was written by hand from the page.
 use libc::STDOUT_FILENO;

@@ -1,4 +1,4 @@
-// The calls of a run after the first (document 01, "Run"): while candidates remain, a call on the formula, the literals forced so far,
+// The calls of a run after the first (docs/RULES.md, "Run"): while candidates remain, a call on the formula, the literals forced so far,
 // and that one of the chunk is false.
 ghost use mathlib.Core.Path.{_≡_};
 ghost use mathlib.Core.List.{_++_, _∷_, []};

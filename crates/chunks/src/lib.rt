@@ -1,3 +1,3 @@
-// The calls of a run after the first, and what the end of any call leaves (document 01, "Run").
+// The calls of a run after the first, and what the end of any call leaves (docs/RULES.md, "Run").
 pub mod calls;
 pub mod step;

@@ -1,4 +1,4 @@
-// What a call leaves (document 01, "Run"): statuses, counts and a row, for each of its three ends.
+// What a call leaves (docs/RULES.md, "Run"): statuses, counts and a row, for each of its three ends.
 ghost use mathlib.Core.Path.{_≡_};
 ghost use mathlib.Core.List.{List};
 ghost use Prim.Native.Nat.{ℕ, _+_, _*_, _≤_};

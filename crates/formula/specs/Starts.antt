@@ -1,4 +1,4 @@
--- Where the clauses start in the entry list, and a clause by its number: document 01, "The formula is read as clauses 1, 2, 3 and so
+-- Where the clauses start in the entry list, and a clause by its number: docs/RULES.md, "The formula is read as clauses 1, 2, 3 and so
 -- on of the entry list, and during a call the chunk constraint counts as the clause after the last one". Assumes nothing.
 use mathlib.Core.Path.{_≡_}
 use mathlib.Core.List.{List, [], _∷_, _++_}

@@ -1,4 +1,4 @@
-// A clause by its number, document 01, "Meaning": a part of the entry list, or the constraint.
+// A clause by its number, docs/RULES.md, "Meaning": a part of the entry list, or the constraint.
 use rules::ClauseNo;
 ghost use mathlib.Core.Path.{_≡_};
 ghost use Rattle.formula.specs.Starts.{Lookup, clauseAt};

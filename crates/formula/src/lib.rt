@@ -1,4 +1,4 @@
-// The formula as the search sees it, document 01, "Meaning" and "Closing": literals and their crossings, the value of a literal,
+// The formula as the search sees it, docs/RULES.md, "Meaning" and "Closing": literals and their crossings, the value of a literal,
 // the state of a clause, where the clauses start, a clause by its number, and a view of it all.
 pub mod clause;
 pub mod lit;

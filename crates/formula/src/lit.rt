@@ -1,5 +1,5 @@
 // The crossings of a literal, and nothing else: its sign, its negation, its variable. The least i32 is no exception: it has a sign
-// and a variable as any other literal. Document 01, "A variable number and a literal are two things".
+// and a variable as any other literal. docs/RULES.md, "A variable number and a literal are two things".
 use rules::Lit;
 use rules::Var;
 ghost use mathlib.Core.Path.{_≡_};

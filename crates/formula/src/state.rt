@@ -1,4 +1,4 @@
-// The state of a clause under values, document 01, "Closing".
+// The state of a clause under values, docs/RULES.md, "Closing".
 use crate::value::is_true;
 use crate::value::is_unset;
 use rules::ClauseState;

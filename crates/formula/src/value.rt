@@ -1,4 +1,4 @@
-// Values, document 01, "Meaning": a byte for each variable, 0 unset, 1 false, 2 true; and the value of a literal under them.
+// Values, docs/RULES.md, "Meaning": a byte for each variable, 0 unset, 1 false, 2 true; and the value of a literal under them.
 use crate::lit::sign;
 use crate::lit::var_of;
 use rules::Lit;

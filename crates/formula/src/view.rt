@@ -1,4 +1,4 @@
-// The formula as clauses 1, 2, 3 and so on, document 01, "Meaning": a view holds the entry list and the number of variables V. The
+// The formula as clauses 1, 2, 3 and so on, docs/RULES.md, "Meaning": a view holds the entry list and the number of variables V. The
 // functions over it are thin: each takes it apart and calls one over slices and numbers. `clause_in` makes a view and hands out a
 // clause of it, so that whoever looks a clause up meets slices and numbers alone.
 use crate::clause::clause_at;

@@ -1,4 +1,4 @@
--- Document 01, "What comes back", in the structs that C and Rust get: each answer by its number and its place. What is read, run and
+-- docs/RULES.md, "What comes back", in the structs that C and Rust get: each answer by its number and its place. What is read, run and
 -- written is defined in rules; here the enums become numbers. Assumes nothing.
 use mathlib.Core.Path.{_≡_}
 use mathlib.Core.List.{List}

@@ -1,5 +1,5 @@
 // The functions that C and Rust link (libigbezolum.a): the reader, the run and the printed table, each thin over its crate. They answer
-// in the numbers of document 01, "What comes back"; include/igbezolum.h is the page for their callers.
+// in the numbers of docs/RULES.md, "What comes back"; include/igbezolum.h is the page for their callers.
 ghost use mathlib.Core.Path.{_≡_};
 ghost use Prim.Native.Nat.{_≤_};
 ghost use Rattle.rules.specs.Numbers.{maxEntries, runPlace};

@@ -1,4 +1,5 @@
--- The laws of lines: field behind field they are those of document 01, and a line a variable is put one behind the other.
+-- The laws of lines: field behind field they are those of docs/RULES.md, "The printed table", and a line a variable is put one
+-- behind the other.
 --
 --   refused-line, answer-line     the fields as they are put are the line
 --   words-off         what a status above 2 says

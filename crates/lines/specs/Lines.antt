@@ -1,4 +1,4 @@
--- The lines of document 01, "The table program", as they are put: field behind field. Assumes nothing.
+-- The lines of docs/RULES.md, "The printed table", as they are put: field behind field. Assumes nothing.
 use mathlib.Core.List.{List, [], _∷_, _++_}
 use Prim.Native.Nat.{ℕ}
 use Rattle.rules.specs.Plain.{decimal}

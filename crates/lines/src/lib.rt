@@ -1,3 +1,3 @@
-// The lines of a table (document 01, "The table program"), put into a buffer that is lent.
+// The lines of a table (docs/RULES.md, "The printed table"), put into a buffer that is lent.
 pub mod line;
 pub mod put;

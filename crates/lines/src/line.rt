@@ -1,4 +1,4 @@
-// The lines of a table (document 01, "The table program"), each ended by LF.
+// The lines of a table (docs/RULES.md, "The printed table"), each ended by LF.
 ghost use Prim.Native.Nat.{_+_, _≤_};
 ghost use mathlib.Core.List.{List, [], _∷_, _++_};
 ghost use lib.ListN.{length};

@@ -1,4 +1,4 @@
--- The table of document 01, "The table program", of an entry list: what a table is put from. Assumes nothing.
+-- The table of docs/RULES.md, "The printed table", of an entry list: what a table is put from. Assumes nothing.
 use mathlib.Core.Path.{_≡_}
 use mathlib.Core.Logic.{_⊎_}
 use mathlib.Core.List.{List}

@@ -1,4 +1,4 @@
-// The table of a text (document 01, "The table program"), put into a buffer that is lent.
+// The table of a text (docs/RULES.md, "The printed table"), put into a buffer that is lent.
 ghost use Rattle.rules.specs.Printed.{Prints};
 
 mod table;

@@ -1,4 +1,4 @@
-// The table of a text (document 01, "The table program"): read, run, put.
+// The table of a text (docs/RULES.md, "The printed table"): read, run, put.
 ghost use mathlib.Core.Path.{_≡_};
 ghost use lib.ListN.{length};
 ghost use Rattle.rules.specs.Numbers.{maxEntries};

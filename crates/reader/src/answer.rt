@@ -1,4 +1,4 @@
-// Answers: document 01, "What comes back". A refusal as it is returned.
+// Answers: docs/RULES.md, "What comes back". A refusal as it is returned.
 ghost use mathlib.Core.Path.{_≡_};
 ghost use Rattle.rules.specs.Reading.{returned};
 ghost use Rattle.rules.specs.Reading.{refused as Judged·refused};

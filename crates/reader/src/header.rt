@@ -1,4 +1,4 @@
-// The header line: document 01, "The text". `p`, `cnf`, V and C, from the line's first byte on, spaces or tabs between, blanks behind.
+// The header line: docs/RULES.md, "The text". `p`, `cnf`, V and C, from the line's first byte on, spaces or tabs between, blanks behind.
 ghost use mathlib.Core.Path.{_≡_};
 ghost use mathlib.Core.List.{[], _∷_};
 ghost use Rattle.rules.specs.Lists.{eqs, cut};

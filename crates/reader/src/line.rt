@@ -1,4 +1,4 @@
-// Lines before the header: document 01, "The text". They are blanks, or their first byte is `c`.
+// Lines before the header: docs/RULES.md, "The text". They are blanks, or their first byte is `c`.
 ghost use mathlib.Core.Path.{_≡_};
 ghost use Rattle.rules.specs.Text.{linesOf};
 ghost use Rattle.reader.specs.Lines.{skipped, firstLine};

@@ -1,4 +1,4 @@
-// Numerals: document 01, "The text". 1 to 9 digits, so a value is below 1,000,000,000 and fits.
+// Numerals: docs/RULES.md, "The text". 1 to 9 digits, so a value is below 1,000,000,000 and fits.
 ghost use mathlib.Core.Path.{_≡_};
 ghost use Rattle.rules.specs.Text.{isDigit};
 ghost use Rattle.reader.specs.Words.{numberOf};

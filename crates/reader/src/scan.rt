@@ -1,4 +1,4 @@
-// Bytes and the search for one: document 01, "The text". Lines, words and tokens are found by `find` alone.
+// Bytes and the search for one: docs/RULES.md, "The text". Lines, words and tokens are found by `find` alone.
 ghost use mathlib.Core.Path.{_≡_};
 ghost use Rattle.rules.specs.Text.{isGap, isBlank};
 ghost use Rattle.reader.specs.Scan.{isWanted, firstFrom};

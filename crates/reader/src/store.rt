@@ -1,4 +1,4 @@
-// The buffer behind the list: document 01, "What comes back". The list, then zeros; zeros alone after a refusal.
+// The buffer behind the list: docs/RULES.md, "What comes back". The list, then zeros; zeros alone after a refusal.
 ghost use mathlib.Core.Path.{_≡_};
 ghost use Prim.Native.Nat.{_≤_};
 ghost use lib.ListN.{length};

@@ -1,4 +1,4 @@
-// Tokens: document 01, "The text". An optional `-` and 1 to 9 digits; a minus before zeros alone is malformed.
+// Tokens: docs/RULES.md, "The text". An optional `-` and 1 to 9 digits; a minus before zeros alone is malformed.
 ghost use mathlib.Core.Path.{_≡_};
 ghost use Rattle.rules.specs.Text.{entryOf};
 ghost use Rattle.reader.specs.Words.{tokenOf, signedToken};

@@ -1,4 +1,4 @@
-// The tokens behind the header, from left to right: document 01, "What comes back". At one token the order is 5, 6, 7, 8.
+// The tokens behind the header, from left to right: docs/RULES.md, "What comes back". At one token the order is 5, 6, 7, 8.
 ghost use mathlib.Core.Path.{_≡_};
 ghost use Prim.Native.Nat.{_≤_};
 ghost use lib.ListN.{length};

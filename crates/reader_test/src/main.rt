@@ -1,4 +1,4 @@
-// The reader at its edges: document 01, "The text" and "What comes back". A line a text: its name, number and place, V, C and the
+// The reader at its edges: docs/RULES.md, "The text" and "What comes back". A line a text: its name, number and place, V, C and the
 // entry count. `crates/reader_test/stdout` was written by hand from the page.
 use libc::STDOUT_FILENO;
 use rules::Reading;

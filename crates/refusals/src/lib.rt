@@ -1,4 +1,4 @@
-// What a run refuses, in the order 10, 1, 11, 12 (document 01, "What comes back"). Nobody has to check a list first.
+// What a run refuses, in the order 10, 1, 11, 12 (docs/RULES.md, "What comes back"). Nobody has to check a list first.
 ghost use mathlib.Core.Path.{_≡_};
 ghost use mathlib.Core.Bool.{_||_};
 ghost use Prim.Native.Nat.{ℕ};

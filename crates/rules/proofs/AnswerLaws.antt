@@ -1,4 +1,4 @@
--- The laws of specs/Answer: the tests by which a run is refused, each against what the table of document 01 says.
+-- The laws of specs/Answer: the tests by which a run is refused, each against what the table of docs/RULES.md says.
 --
 --   Nth, nthIndex-split, nthIndex-at      the element at nthIndex, and back
 --   isEnded-snoc, isEnded-last    empty or ended by 0

@@ -1,4 +1,4 @@
--- How a call goes on, document 01, "Search": the page's own words, "close; on a clash ..; all set ..; otherwise try", as an
+-- How a call goes on, docs/RULES.md, "Search": the page's own words, "close; on a clash ..; all set ..; otherwise try", as an
 -- equation without a bound on the depth, and an induction for calls. Calls that agree at what is tried are equal: all that is said
 -- of two calls goes by `onClosed-cong`.
 --

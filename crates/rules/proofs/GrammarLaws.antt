@@ -1,4 +1,4 @@
--- The reading and the grammar agree (document 01, "The text"): a text is accepted as V, C and entries exactly if it is a text of
+-- The reading and the grammar agree (docs/RULES.md, "The text"): a text is accepted as V, C and entries exactly if it is a text of
 -- specs/Grammar that says these. A whole text (VerdictLaws) is taken apart at its lines, tokens and zeros, and put together again.
 --
 --   clausesOf-of-passes           entries that pass and complete C clauses are C clauses

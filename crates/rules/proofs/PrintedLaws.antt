@@ -1,8 +1,8 @@
--- The laws of specs/Printed: its contract has exactly one solution, its run is never refused, and document 01's example computed.
+-- The laws of specs/Printed: its contract has exactly one solution, its run is never refused, and the example of docs/RULES.md computed.
 --
 --   prints-exists, prints-unique     one result and one buffer satisfy the contract
 --   table-runs        the run of the table program is never refused
---   shown             document 01's example
+--   shown             the example of docs/RULES.md
 --
 -- Assumes nothing.
 use mathlib.Core.Path.{_≡_, refl, sym, _∙_, ap}
@@ -33,7 +33,7 @@ use Rattle.rules.proofs.DecimalLaws.{decimal-most}
 use Rattle.rules.proofs.TextTheorems.{dimacs-runs}
 use Rattle.rules.proofs.RefusedRuns.{run-accepted}
 
--- ---- document 01's example
+-- ---- the example of docs/RULES.md
 
 -- `p cnf 2 2`, LF, `1 2 0 1 -2 0`, LF
 abbrev exampleText : List ℕ

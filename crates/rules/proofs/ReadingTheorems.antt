@@ -1,10 +1,10 @@
--- What we promise of a reading (document 01, "The text" and "What comes back"): what a caller sees, for every text and every buffer.
+-- What we promise of a reading (docs/RULES.md, "The text" and "What comes back"): what a caller sees, for every text and every buffer.
 --
 --   read-accepts, read-accepted   accepted exactly if the text is DIMACS CNF, with its V, C and entries
 --   read-refuses, read-refused    refused with a number exactly if the rule of that number says so
 --   reads-exists, reads-unique    there is a result that meets the contract, and no second one
 --   length-entriesAfter           nothing beyond the buffer is written
---   SmallText, smallTexts, answerTo, passes, small-texts     the four texts of document 01, computed
+--   SmallText, smallTexts, answerTo, passes, small-texts     the small texts of docs/RULES.md, computed
 --
 -- Assumes nothing.
 use mathlib.Core.Path.{_≡_, refl, sym, _∙_, ap, subst, subst₂}
@@ -161,7 +161,7 @@ answerTo behind = readingOf (112 ∷ 32 ∷ 99 ∷ 110 ∷ 102 ∷ 32 ∷ 49 ∷
 unfoldable pub passes : SmallText → Bool
 passes t = eqb (readNumber (answerTo (t .behind))) (t .number) && eqb (readPlace (answerTo (t .behind))) (t .place)
 
--- The four texts of document 01 get the numbers and places that it gives.
+-- The small texts of docs/RULES.md get the numbers and places that it gives.
 pub small-texts : all passes smallTexts ≡ true
 unfolding smallTexts passes answerTo readingOf judge linesOf judgeLines headerOf numeral tokensFrom judgeTokens entryOf
 small-texts = refl

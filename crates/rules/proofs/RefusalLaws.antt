@@ -1,4 +1,4 @@
--- The reading and the rules of refusal agree (document 01, the table of "What comes back"): a text gets a number exactly when the rule
+-- The reading and the rules of refusal agree (docs/RULES.md, the table of "What comes back"): a text gets a number exactly when the rule
 -- of that number in specs/Refusals says so. Read off the verdict (VerdictLaws).
 --
 --   refusal-sound, refusal-complete     the theorem

@@ -1,4 +1,4 @@
--- A run is refused, by number and place, exactly when the table of document 01 says so, and accepted otherwise.
+-- A run is refused, by number and place, exactly when the table of docs/RULES.md says so, and accepted otherwise.
 --
 --   run-refused       the refusal is a exactly if the rule of a says so
 --   run-accepted      there is no refusal exactly if every rule is kept

@@ -1,4 +1,4 @@
--- Document 01, "Small formulas, whole": the starred cases as one computed table and one theorem. The buffers are lent just as
+-- docs/RULES.md, "Small formulas": the starred cases as one computed table and one theorem. The buffers are lent just as
 -- long as they must be and full of 7s, so that the table also shows what is written. Assumes nothing.
 use mathlib.Core.Path.{_≡_, refl}
 use mathlib.Core.Bool.{Bool, true, _&&_}

@@ -1,4 +1,4 @@
--- The laws of a clause's state, document 01, "Closing": what each state says of the clause's literals, that nothing else does, and
+-- The laws of a clause's state, docs/RULES.md, "Closing": what each state says of the clause's literals, that nothing else does, and
 -- what it says of values that extend these.
 --
 --   AllFalse, OneUnset, TwoUnset, Means     what the states say

@@ -1,4 +1,4 @@
--- Document 01, "What comes back", for the run: its refusals in their order, what it returns, and what the two lent buffers hold
+-- docs/RULES.md, "What comes back", for the run: its refusals in their order, what it returns, and what the two lent buffers hold
 -- afterwards. Assumes nothing.
 use mathlib.Core.Path.{_≡_}
 use mathlib.Core.Bool.{Bool, true, false, not, _||_}

@@ -1,4 +1,4 @@
--- Document 01, "Closing": the state of a clause, and rounds over the clauses in order. Assumes nothing.
+-- docs/RULES.md, "Closing": the state of a clause, and rounds over the clauses in order. Assumes nothing.
 use mathlib.Core.Bool.{Bool, true, false}
 use mathlib.Core.List.{List, [], _∷_}
 use Prim.Native.Nat.{ℕ, zero, suc}

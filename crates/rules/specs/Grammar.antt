@@ -1,4 +1,4 @@
--- DIMACS CNF as document 01 gives it, as a grammar: what a text is, and not how it is read. specs/Reading.antt reads; that both
+-- DIMACS CNF as docs/RULES.md, "The text", gives it, as a grammar: what a text is, and not how it is read. specs/Reading.antt reads; that both
 -- agree is a theorem. Assumes nothing.
 use mathlib.Core.Path.{_≡_}
 use mathlib.Core.Bool.{true, false}

@@ -1,4 +1,4 @@
--- Tests and cuts over lists, which the headings of document 01 share. Assumes nothing.
+-- Tests and cuts over lists, which the headings of docs/RULES.md share. Assumes nothing.
 use mathlib.Core.Bool.{Bool, true, false, _&&_, _||_}
 use mathlib.Core.List.{List, [], _∷_, _++_, List·Memᴰ}
 use mathlib.Core.Option.{Option, none, some}

@@ -1,4 +1,4 @@
--- Document 01, "What comes back", as statements about the rows of a log: what theorems say of it. Assumes nothing.
+-- docs/RULES.md, "What comes back", as statements about the rows of a log: what theorems say of it. Assumes nothing.
 use mathlib.Core.Path.{_≡_}
 use mathlib.Core.List.{List, [], _∷_}
 use Prim.Native.Nat.{ℕ, suc, _+_, _≤_}

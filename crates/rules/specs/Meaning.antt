@@ -1,4 +1,4 @@
--- Document 01, "Meaning": literals, clauses, the entry list cut at its zeros, values, models. Assumes nothing.
+-- docs/RULES.md, "Meaning": literals, clauses, the entry list cut at its zeros, values, models. Assumes nothing.
 use mathlib.Core.Path.{_≡_}
 use mathlib.Core.Logic.{_≢_, _⊎_}
 use mathlib.Core.Bool.{Bool, true}

@@ -1,4 +1,5 @@
--- What the theorems say of models; the definition of backbone is source 000, section 2. Assumes nothing.
+-- What the theorems say of models; the definition of backbone is that of Biere, Froleyks and Wang, "CadiBack: Extracting Backbones
+-- with CaDiCaL" (SAT 2023), section 2. Assumes nothing.
 use mathlib.Core.Path.{_≡_}
 use mathlib.Core.Logic.{_≢_, _↔_}
 use mathlib.Core.Bool.{true}

@@ -1,4 +1,4 @@
--- Document 01, "Sizes", and the numbers and places of "What comes back", for each answer. Assumes nothing.
+-- docs/RULES.md, "Sizes", and the numbers and places of "What comes back", for each answer. Assumes nothing.
 use Prim.Native.Nat.{ℕ}
 use Rattle.rules.specs.declared.Outcome.{Outcome}
 use Rattle.rules.specs.declared.ReadAnswer.{ReadAnswer}

@@ -1,4 +1,4 @@
--- Document 01, "The table program": the bytes that are printed for a text. Assumes nothing.
+-- docs/RULES.md, "The printed table": the bytes that are printed for a text. Assumes nothing.
 use mathlib.Core.Path.{_≡_}
 use mathlib.Core.Bool.{Bool, true, false}
 use mathlib.Core.List.{List, [], _∷_, _++_}

@@ -1,4 +1,4 @@
--- Document 01, "The text" and the reader's part of "What comes back": the judgement from left to right, what a reading returns,
+-- docs/RULES.md, "The text" and the reader's part of "What comes back": the judgement from left to right, what a reading returns,
 -- and what the entry buffer holds afterwards. Assumes nothing.
 use mathlib.Core.Path.{_≡_}
 use mathlib.Core.Bool.{Bool, true, false, _&&_}

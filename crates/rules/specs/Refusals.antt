@@ -1,4 +1,4 @@
--- When a text is refused, number by number, as the table of document 01 says it: in terms of lines and tokens, and not of how
+-- When a text is refused, number by number, as the table of docs/RULES.md says it: in terms of lines and tokens, and not of how
 -- they are read. That a reading gives a number exactly when its rule here says so is a theorem. Assumes nothing.
 use mathlib.Core.Path.{_≡_}
 use mathlib.Core.Logic.{_⊎_}

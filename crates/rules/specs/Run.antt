@@ -1,4 +1,4 @@
--- Document 01, "Run": candidates, compare, flip, chunks, and the rows of the log. Assumes nothing.
+-- docs/RULES.md, "Run": candidates, compare, flip, chunks, and the rows of the log. Assumes nothing.
 use mathlib.Core.Path.{_≡_}
 use mathlib.Core.Bool.{Bool, true, false, not}
 use mathlib.Core.List.{List, [], _∷_, _++_, map}

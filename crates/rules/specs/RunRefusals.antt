@@ -1,4 +1,4 @@
--- When a run is refused, number by number, as the table of document 01 says it. That a run gives a number exactly when its rule
+-- When a run is refused, number by number, as the table of docs/RULES.md says it. That a run gives a number exactly when its rule
 -- here says so is a theorem. Assumes nothing.
 use mathlib.Core.Path.{_≡_}
 use mathlib.Core.Logic.{_⊎_}

@@ -1,4 +1,4 @@
--- Document 01, "Search" and "Budget": going on and trying, with one meter of tries. Assumes nothing.
+-- docs/RULES.md, "Search" and "Budget": going on and trying, with one meter of tries. Assumes nothing.
 use mathlib.Core.Bool.{Bool, true, false}
 use mathlib.Core.List.{List, [], _∷_}
 use mathlib.Core.Option.{Option, none, some}

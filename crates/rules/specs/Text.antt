@@ -1,4 +1,4 @@
--- Document 01, "The text": bytes, lines, the header line, tokens. A text is split here; specs/Reading.antt judges it.
+-- docs/RULES.md, "The text": bytes, lines, the header line, tokens. A text is split here; specs/Reading.antt judges it.
 -- Assumes nothing.
 use mathlib.Core.Bool.{Bool, true, false, not, _&&_, _||_}
 use mathlib.Core.List.{List, [], _∷_}

@@ -1,4 +1,4 @@
--- Document 01, "Run", call by call: what progress a run comes to, and how it ends. Assumes nothing.
+-- docs/RULES.md, "Run", call by call: what progress a run comes to, and how it ends. Assumes nothing.
 use mathlib.Core.Path.{_≡_}
 use mathlib.Core.List.{[]}
 use Prim.Native.Nat.{ℕ, suc, _+_, min}

@@ -1,4 +1,4 @@
--- Document 01's form of a call: the literals that are forced already are clauses of one literal each, beside the others. A run
+-- A call as docs/RULES.md, "Run", has it: the literals that are forced already are clauses of one literal each, beside the others. A run
 -- starts its calls from them as values instead; proofs/SearchOrder shows that the calls are the same. Assumes nothing.
 use mathlib.Core.List.{List, [], _∷_}
 use Prim.Native.Nat.{ℕ, zero, suc}

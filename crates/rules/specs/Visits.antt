@@ -1,4 +1,4 @@
--- Document 01, "Closing", in any order: what visits of the clauses, one after the other, may set. Closing by rounds is one such
+-- docs/RULES.md, "Closing", in any order: what visits of the clauses, one after the other, may set. Closing by rounds is one such
 -- order, and proofs/ClosingOrder shows that all end alike. Assumes nothing.
 use mathlib.Core.Path.{_≡_}
 use mathlib.Core.Logic.{_≢_}

@@ -1,4 +1,4 @@
-// The types that the definitions in specs/ name, and the sizes of document 01, "Sizes". Of functions only the numbers of the answers
+// The types that the definitions in specs/ name, and the sizes of docs/RULES.md, "Sizes". Of functions only the numbers of the answers
 // are here: the crates above compute what specs/ defines, and theorems about it stand in proofs/.
 pub mod numbers;
 

@@ -1,4 +1,4 @@
-// The numbers and places of document 01, "What comes back", for each answer.
+// The numbers and places of docs/RULES.md, "What comes back", for each answer.
 ghost use mathlib.Core.Path.{_≡_};
 ghost use Rattle.rules.specs.Numbers.{outcomeNumber, readNumber, readPlace, runNumber, runPlace};
 

@@ -1,4 +1,4 @@
-// A call, document 01, "Search": going on chooses a variable and calls try, trying sets it and calls go_on. The number of unset
+// A call, docs/RULES.md, "Search": going on chooses a variable and calls try, trying sets it and calls go_on. The number of unset
 // variables falls. The values are lent: a call leaves its model there, or else what it found when it came.
 use crate::close::Closing;
 use crate::close::close;

@@ -1,4 +1,4 @@
-// Closing by rounds, document 01, "Closing": every clause once, in order, setting units as they are met, until a round sets nothing
+// Closing by rounds, docs/RULES.md, "Closing": every clause once, in order, setting units as they are met, until a round sets nothing
 // or a clause is false.
 use crate::values::make_true;
 use formula::state::state_of;

@@ -1,4 +1,4 @@
-// The search, document 01, "Closing", "Search" and "Budget": values that are lent, closing by rounds, the meter of tries, and going
+// The search, docs/RULES.md, "Closing", "Search" and "Budget": values that are lent, closing by rounds, the meter of tries, and going
 // on and trying, which call each other.
 pub mod call;
 mod close;

@@ -1,4 +1,4 @@
-// One meter of tries serves the whole run, document 01, "Budget". A try is taken from a meter that is lent; what is left of it is
+// One meter of tries serves the whole run, docs/RULES.md, "Budget". A try is taken from a meter that is lent; what is left of it is
 // computed by value.
 ghost use mathlib.Core.Path.{_≡_};
 ghost use Rattle.search.specs.Meters.{takenOf, afterTry};

@@ -1,4 +1,4 @@
-// Chunks (document 01, "Run"): the values that a chunk's call starts from, and what a chunk without a model forces.
+// Chunks (docs/RULES.md, "Run"): the values that a chunk's call starts from, and what a chunk without a model forces.
 ghost use mathlib.Core.Path.{_≡_};
 ghost use Prim.Native.Nat.{_<_};
 ghost use lib.ListN.{length};

@@ -1,4 +1,4 @@
-// The constraint of a chunk (document 01, "Run"): at least one of its candidates is false.
+// The constraint of a chunk (docs/RULES.md, "Run"): at least one of its candidates is false.
 ghost use mathlib.Core.Path.{_≡_};
 ghost use Prim.Native.Nat.{pred, _≤_, _<_};
 ghost use lib.ListN.{length};

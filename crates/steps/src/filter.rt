@@ -1,4 +1,4 @@
-// After every model: compare, then flip (document 01, "Run"). A candidate that is dropped is free.
+// After every model: compare, then flip (docs/RULES.md, "Run"). A candidate that is dropped is free.
 ghost use mathlib.Core.Path.{_≡_};
 ghost use Prim.Native.Nat.{_≤_, _<_};
 ghost use lib.ListN.{length};

@@ -1,4 +1,4 @@
-// Flips (document 01, "Run"): each remaining candidate whose variable, flipped alone in the model, leaves all clauses of the formula
+// Flips (docs/RULES.md, "Run"): each remaining candidate whose variable, flipped alone in the model, leaves all clauses of the formula
 // true is dropped. Neither the constraint nor the forced literals are consulted.
 ghost use mathlib.Core.Path.{_≡_};
 ghost use Prim.Native.Nat.{_+_, _≤_, _<_};

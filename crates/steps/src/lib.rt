@@ -1,4 +1,4 @@
-// The steps of a run that need no call (document 01, "Run"): compare, flip, chunk, constraint, log row.
+// The steps of a run that need no call (docs/RULES.md, "Run"): compare, flip, chunk, constraint, log row.
 pub mod buffer;
 pub mod chunk;
 pub mod constraint;

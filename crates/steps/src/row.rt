@@ -1,4 +1,4 @@
-// The rows of the log (document 01, "What comes back").
+// The rows of the log (docs/RULES.md, "What comes back").
 ghost use mathlib.Core.Path.{_≡_};
 ghost use mathlib.Core.List.{[], _∷_};
 ghost use Prim.Native.Nat.{_+_, _-_, _*_, _≤_};

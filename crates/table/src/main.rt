@@ -1,4 +1,4 @@
-// The table program (document 01, "Small formulas, whole"): reads a text from standard input and prints its table. One byte more than
+// The table program (docs/RULES.md, "The printed table"): reads a text from standard input and prints its table. One byte more than
 // a text may have is kept, so that a longer one is refused with 2.
 use libc::STDIN_FILENO;
 
