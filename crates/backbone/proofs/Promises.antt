@@ -46,7 +46,7 @@ ends-answered : {k : Task} {e : Ended} → Ends k e → isAnswered (e .answer) �
 ends-answered (first-none t e) = refl
 ends-answered (first-stopped t e) = refl
 ends-answered (settled r o) = refl
-ends-answered (next-stopped n t r o e) = refl
+ends-answered (next-stopped t r o e) = refl
 
 rule-refuses : {g : Given} {a : RunAnswer} → RunRefuses g a → isAnswered a ≡ false
 rule-refuses (out-of-limits h) = refl

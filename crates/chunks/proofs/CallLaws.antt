@@ -30,7 +30,7 @@ use Rattle.rules.specs.Answer.{isFree, isForced, logLength, logOfRows}
 use Rattle.rules.proofs.ListLaws.{map-in, in-take, count-le}
 use Rattle.rules.proofs.StatusLaws.{candidate-open}
 use Rattle.rules.proofs.KnownLaws.{Known, first-model-is}
-use Rattle.rules.proofs.RunTrace.{known}
+use Rattle.rules.proofs.RunTrace.{doubled-is, known}
 use Rattle.rules.proofs.RunNext.{chunks-next}
 use Rattle.rules.proofs.LogLaws.{calls-opens-le}
 use Rattle.formula.specs.Clauses.{ClauseUpTo}
@@ -125,8 +125,8 @@ module _ {k : Task} {size n : ℕ} {p : Progress} (limit : 1 ≤ k .limit) (r : 
 
 pub size-le : {k : Task} {size : ℕ} {p : Progress} → 1 ≤ k .limit → Reached k size p → size ≤ k .limit
 size-le h (first-model m t e) = h
-size-le h (next-model n m t r o e) = h
-size-le h (next-none n t r o e) = omega arith
+size-le h (next-model m t r o e) = h
+size-le h (next-none t r o e d) = omega (arith, doubled-is d)
 
 -- ---- what a step needs
 

@@ -18,7 +18,7 @@ use Rattle.rules.specs.Search.{Call, model, no-model, stopped, callOn}
 use Rattle.rules.specs.Run.{Task, Progress, opens, candidatesFrom, constraint, forcedValues, chunkCall, afterModel, afterNone, afterStop, chunks}
 use Rattle.rules.specs.Trace.{Reached, next-model, next-none}
 use Rattle.rules.proofs.SearchLaws.{Metered, callOn-tries}
-use Rattle.rules.proofs.RunTrace.{size-pos, model-drops, none-forces}
+use Rattle.rules.proofs.RunTrace.{takes-min, doubled-min, size-pos, model-drops, none-forces}
 use Rattle.search.specs.declared.call.CallEnd.{CallEnd}
 use Rattle.search.specs.Calls.{CallEnds}
 use Rattle.chunks.specs.declared.step.State.{State}
@@ -64,7 +64,7 @@ module _ (es : List ℤ) (vars budget limit : ℕ) {s : State} {first status log
     pub on-model : r .outcome ≡ Outcome.Model → {t : State} {status′ log′ : List ℕ} → (t .size ≡ 1) × Shows vars (afterModel (task es vars budget limit) (w .progress) chunk after (r .meter .spent)) t first status′ log′ → StepTo (task es vars budget limit) (s .size) (w .progress) first (GoesOn t) status′ log′
     on-model o {t} (z, x) =
         let q = call (ends-model e o) in
-        let y = next-model n after (r .meter .spent) (w .reached) opens-are q in
+        let y = next-model after (r .meter .spent) (w .reached) (takes-min (s .size) (w .progress) opens-are) q in
         goes-on {s = t} (record { progress = afterModel (task es vars budget limit) (w .progress) (min (s .size) (suc n)) after (r .meter .spent); reached = rw z y; shows = rw same at x })
         (model-drops (min (s .size) (suc n)) after (r .meter .spent) (w .reached) q)
         (step-model some-limit (w .reached) opens-are after (r .meter .spent) q ∙ ap (λ (j : ℕ). chunks (task es vars budget limit) j (afterModel (task es vars budget limit) (w .progress) (min (s .size) (suc n)) after (r .meter .spent))) (sym z))
@@ -72,7 +72,7 @@ module _ (es : List ℤ) (vars budget limit : ℕ) {s : State} {first status log
     pub on-none : r .outcome ≡ Outcome.NoModel → {t : State} {status′ log′ : List ℕ} → (t .size ≡ doubled (s .size) limit) × Shows vars (afterNone (w .progress) chunk (r .meter .spent)) t first status′ log′ → StepTo (task es vars budget limit) (s .size) (w .progress) first (GoesOn t) status′ log′
     on-none o {t} (z, x) =
         let q = call (ends-none e o) in
-        let y = next-none n (r .meter .spent) (w .reached) opens-are q in
+        let y = next-none (r .meter .spent) (w .reached) (takes-min (s .size) (w .progress) opens-are) q (doubled-min (s .size) limit) in
         goes-on {s = t} (record { progress = afterNone (w .progress) (min (s .size) (suc n)) (r .meter .spent); reached = rw z y; shows = rw same at x })
         (omega (arith, size-pos some-limit (w .reached), none-forces (min (s .size) (suc n)) (w .reached) (omega (arith, opens-are)) .opens-less, opens-are))
         (step-none some-limit (w .reached) opens-are (r .meter .spent) q ∙ ap (λ (j : ℕ). chunks (task es vars budget limit) j (afterNone (w .progress) (min (s .size) (suc n)) (r .meter .spent))) (sym z))

@@ -39,8 +39,8 @@ module _ (k : Task) (limit : 1 ≤ k .limit) where
       go (first-none t e) = omega arith
       go (first-stopped t e) = omega arith
       go (settled r o) = omega (arith, calls-opens-le limit r)
-      go (next-stopped {size = size} {p = p} n t r o e) =
-          omega (arith, calls-opens-le limit r, length-append (p .rows) (rowAfter p Outcome.Stopped (min size (suc n)) 0 0 t ∷ []))
+      go (next-stopped {chunk = chunk} {p = p} t r o e) =
+          omega (arith, calls-opens-le limit r, length-append (p .rows) (rowAfter p Outcome.Stopped chunk 0 0 t ∷ []))
 
   pub run-tries : run k .progress .tries ≤ k .budget
   run-tries = go (run-ends k limit)
@@ -49,7 +49,7 @@ module _ (k : Task) (limit : 1 ≤ k .limit) where
       go (first-none t e) = rw e at (first-metered k .within (omega arith))
       go (first-stopped t e) = rw e at (first-metered k .within (omega arith))
       go (settled r o) = tries-le r
-      go (next-stopped {size = size} {p = p} n t r o e) = rw e at (chunk-metered k p (min size (suc n)) .within (tries-le r))
+      go (next-stopped {chunk = chunk} {p = p} t r o e) = rw e at (chunk-metered k p chunk .within (tries-le r))
 
   pub run-log : LogAt (run k .progress)
   run-log = go (run-ends k limit)
@@ -58,8 +58,8 @@ module _ (k : Task) (limit : 1 ≤ k .limit) where
       go (first-none t e) = first-log k Outcome.NoModel t
       go (first-stopped t e) = first-log k Outcome.Stopped t
       go (settled r o) = logged limit r
-      go (next-stopped {size = size} {p = p} n t r o e) =
-          stop-log p (min size (suc n)) t (rw e at (chunk-metered k p (min size (suc n)) .up)) (logged limit r)
+      go (next-stopped {chunk = chunk} {p = p} t r o e) =
+          stop-log p chunk t (rw e at (chunk-metered k p chunk .up)) (logged limit r)
 
   pub no-model-table : run k .answer ≡ RunAnswer.NoModel → (run k .progress .statuses ≡ replicate (k .vars) 0) × (length (run k .progress .rows) ≡ 1)
   no-model-table = go (run-ends k limit)
@@ -68,7 +68,7 @@ module _ (k : Task) (limit : 1 ≤ k .limit) where
       go (first-none t e) z = (refl, refl)
       go (first-stopped t e) z = (refl, refl)
       go (settled r o) z = absurd (let y : _≡_ {A = ℕ} 0 1 = cc in omega arith)
-      go (next-stopped n t r o e) z = absurd (let y : _≡_ {A = ℕ} 0 1 = cc in omega arith)
+      go (next-stopped t r o e) z = absurd (let y : _≡_ {A = ℕ} 0 1 = cc in omega arith)
 
   pub stopped-spent : run k .answer ≡ RunAnswer.Stopped → run k .progress .tries ≡ k .budget
   stopped-spent = go (run-ends k limit)
@@ -77,5 +77,5 @@ module _ (k : Task) (limit : 1 ≤ k .limit) where
       go (first-none t e) z = absurd (let y : _≡_ {A = ℕ} 0 1 = cc in omega arith)
       go (first-stopped t e) z = omega (arith, first-metered k .spent t e, rw e at (first-metered k .within (omega arith)))
       go (settled r o) z = absurd (let y : _≡_ {A = ℕ} 0 1 = cc in omega arith)
-      go (next-stopped {size = size} {p = p} n t r o e) z =
-          omega (arith, chunk-metered k p (min size (suc n)) .spent t e, rw e at (chunk-metered k p (min size (suc n)) .within (tries-le r)))
+      go (next-stopped {chunk = chunk} {p = p} t r o e) z =
+          omega (arith, chunk-metered k p chunk .spent t e, rw e at (chunk-metered k p chunk .within (tries-le r)))

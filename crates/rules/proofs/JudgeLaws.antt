@@ -1,7 +1,6 @@
 -- The judgement of tokens (specs/Reading), step by step: a token passes or stops the reading, and never both. Tokens that pass are
 -- those with nothing to refuse (specs/Refusals).
 --
---   le-or-lt                      an order is decided
 --   Fits, Passes                  tokens with nothing to refuse, one after the other
 --   fine-of-passes, passes-of-fine, count-of-passes     they are those of specs/Refusals, and complete C clauses at most
 --   Stop                          why a token is refused: 5, 6, 7, 8
@@ -29,15 +28,9 @@ use Rattle.rules.specs.Text.{Piece, Sizes, entryOf}
 use Rattle.rules.specs.Reading.{Judged, accepted, refused, isZero, withEntry, judgeEnd, judgeTokens}
 use Rattle.rules.specs.Grammar.{Token}
 use Rattle.rules.specs.Refusals.{Say, nothing, one-more, Fine}
+use Rattle.rules.proofs.ListLaws.{le-or-lt}
 use Rattle.rules.proofs.CutLaws.{nil-not-append}
 use Rattle.rules.proofs.TokenLaws.{not-none, entry-sound, entry-complete, entry-none}
-
-pub le-or-lt : (a b : ℕ) → (a ≤ b) ⊎ (b < a)
-le-or-lt a b = go (leb a b) refl
-  where
-    go : (t : Bool) → leb a b ≡ t → (a ≤ b) ⊎ (b < a)
-    go true e = inl (leb-true a b e)
-    go false e = inr (leb-false a b e)
 
 countIf-add : (b : Bool) (k n : ℕ) → countIf b k + n ≡ k + countIf b n
 countIf-add true k n = omega arith

@@ -32,5 +32,6 @@ pub mod TextTheorems
 pub mod PrintedLaws
 pub mod PlaceLaws
 pub mod TableLaws
+pub mod TableTheorems
 pub mod Starred
 pub mod Theorems

@@ -1,6 +1,7 @@
 -- The laws of specs/Lists: what a test over a list says of its elements, and how tests, counts and sums go over `++` and over
 -- equal functions. A test is spoken of as `b ≡ true` and `b ≡ false`, so that `rw`, `cc` and `∙` work on it.
 --
+--   le-or-lt                      an order is decided
 --   both, never, not-true         a test is true or false, never both, and false if it cannot be true
 --   same-test                     two tests are the same if each follows from the other
 --   and-left, and-right           the two halves of `&&`
@@ -22,13 +23,20 @@ use mathlib.Core.Bool.{Bool, true, false, true≢false, not, _&&_, _||_, or-true
 use mathlib.Core.List.{List, [], _∷_, _++_, List·Memᴰ·head, List·Memᴰ·tail, List·Memᴰ·not-nil, map}
 use Prim.Native.Nat.{ℕ, zero, suc, _+_, _≤_, _<_}
 use native.Mathlib.Omega.{arith}
-use lib.Dec.{eqb}
+use lib.Dec.{eqb, leb}
 use lib.IntN.{ℤ, pos, negsuc}
 use lib.ListN.{length, getD, take}
-use borrow.Author.Tests.{eqb-true, eq-eqb}
+use borrow.Author.Tests.{eqb-true, eq-eqb, leb-true, leb-false}
 use Rattle.rules.specs.Lists.{In, any, all, keep, keepIf, count, countIf, sumOf, eqz, eqs}
 
 -- ---- tests
+
+pub le-or-lt : (a b : ℕ) → (a ≤ b) ⊎ (b < a)
+le-or-lt a b = go (leb a b) refl
+  where
+    go : (t : Bool) → leb a b ≡ t → (a ≤ b) ⊎ (b < a)
+    go true e = inl (leb-true a b e)
+    go false e = inr (leb-false a b e)
 
 pub both : (b : Bool) → (b ≡ true) ⊎ (b ≡ false)
 both true = inl refl

@@ -29,7 +29,7 @@ use Rattle.rules.proofs.ListLaws.{sumOf-append, count-le}
 use Rattle.rules.proofs.SearchLaws.{Metered, callOn-tries}
 use Rattle.rules.proofs.StatusLaws.{Freed, freed-counts, ForcedMore}
 use Rattle.rules.specs.Trace.{Reached, first-model, next-model, next-none}
-use Rattle.rules.proofs.RunTrace.{size-pos, model-drops, none-forces}
+use Rattle.rules.proofs.RunTrace.{takes-some, model-drops, none-forces}
 
 -- ---- rows
 
@@ -124,10 +124,11 @@ logged {k} h (first-model m t e) =
     let c = filtered-counts k (begun k m) 0 m t in
     let (a, b, z) = blank-counts (k .vars) in
     log-counts (omega (arith, c .free-more)) (sym b ∙ c .forced-same) (omega arith) (log-begun (modelRow k (begun k m) 0 m t) refl)
-logged {k} h (next-model {size = size} {p = p} n m t r o e) =
-    model-log k p (min size (suc n)) m t (rw e at (chunk-metered k p (min size (suc n)) .up)) (model-drops (min size (suc n)) m t r e) (logged h r)
-logged {k} h (next-none {size = size} {p = p} n t r o e) =
-    none-log p (min size (suc n)) t (rw e at (chunk-metered k p (min size (suc n)) .up)) (omega (arith, size-pos h r)) (none-forces (min size (suc n)) r (omega arith)) (logged h r)
+logged {k} h (next-model {chunk = chunk} {p = p} m t r o e) =
+    model-log k p chunk m t (rw e at (chunk-metered k p chunk .up)) (model-drops chunk m t r e) (logged h r)
+logged {k} h (next-none {chunk = chunk} {p = p} t r o e d) =
+    let (some, most) = takes-some h r o in
+    none-log p chunk t (rw e at (chunk-metered k p chunk .up)) some (none-forces chunk r most) (logged h r)
 
 -- ---- calls and tries
 
@@ -135,12 +136,13 @@ logged {k} h (next-none {size = size} {p = p} n t r o e) =
 pub calls-opens-le : {k : Task} {size : ℕ} {p : Progress} → 1 ≤ k .limit → Reached k size p → length (p .rows) + opens (p .statuses) ≤ k .vars + 1
 calls-opens-le {k} h (first-model m t e) =
     omega (arith, filtered-counts k (begun k m) 0 m t .drops-are, blank-counts (k .vars) .2)
-calls-opens-le {k} h (next-model {size = size} {p = p} n m t r o e) =
-    omega (arith, calls-opens-le h r, model-drops (min size (suc n)) m t r e, length-append (p .rows) (modelRow k p (min size (suc n)) m t ∷ []))
-calls-opens-le {k} h (next-none {size = size} {p = p} n t r o e) =
-    omega (arith, calls-opens-le h r, size-pos h r, none-forces (min size (suc n)) r (omega arith) .opens-less, length-append (p .rows) (rowAfter p Outcome.NoModel (min size (suc n)) 0 0 t ∷ []))
+calls-opens-le {k} h (next-model {chunk = chunk} {p = p} m t r o e) =
+    omega (arith, calls-opens-le h r, model-drops chunk m t r e, length-append (p .rows) (modelRow k p chunk m t ∷ []))
+calls-opens-le {k} h (next-none {chunk = chunk} {p = p} t r o e d) =
+    let (some, most) = takes-some h r o in
+    omega (arith, calls-opens-le h r, some, none-forces chunk r most .opens-less, length-append (p .rows) (rowAfter p Outcome.NoModel chunk 0 0 t ∷ []))
 
 pub tries-le : {k : Task} {size : ℕ} {p : Progress} → Reached k size p → p .tries ≤ k .budget
 tries-le {k} (first-model m t e) = rw e at (first-metered k .within (omega arith))
-tries-le {k} (next-model {size = size} {p = p} n m t r o e) = rw e at (chunk-metered k p (min size (suc n)) .within (tries-le r))
-tries-le {k} (next-none {size = size} {p = p} n t r o e) = rw e at (chunk-metered k p (min size (suc n)) .within (tries-le r))
+tries-le {k} (next-model {chunk = chunk} {p = p} m t r o e) = rw e at (chunk-metered k p chunk .within (tries-le r))
+tries-le {k} (next-none {chunk = chunk} {p = p} t r o e d) = rw e at (chunk-metered k p chunk .within (tries-le r))

@@ -5,6 +5,8 @@
 --   run-forced            a literal marked forced is in all models, and there is one
 --   run-free              a variable marked free has a witness against the run's first model
 --   settled-forced, settled-free     and back, in a settled run
+--   settled-none-open     a settled run leaves no variable open
+--   settled-same          budget and chunk limit never change a settled status
 --   no-model-exactly      20 is answered exactly if there is no model, unless stopped
 --   run-statuses          there is a status for each variable, and it is 0, 1, 2 or 3
 --
@@ -17,6 +19,7 @@ use Prim.Native.Nat.{ℕ, zero, suc, _+_, _≤_, _<_, min}
 use native.Mathlib.Omega.{arith}
 use lib.IntN.{ℤ, pos, negsuc}
 use lib.ListN.{length, replicate, length-append, length-replicate}
+use lib.Seq.{ext-getD}
 use borrow.Author.Tests.{eqb-true, eq-eqb}
 use Rattle.rules.specs.declared.Outcome.{Outcome}
 use Rattle.rules.specs.declared.RunAnswer.{RunAnswer}
@@ -30,7 +33,7 @@ use Rattle.rules.specs.Log.{LogOf}
 use Rattle.rules.proofs.ListLaws.{never}
 use Rattle.rules.proofs.MeaningLaws.{blank-extends, blank-proper}
 use Rattle.rules.proofs.KnownLaws.{Known, first-model-is}
-use Rattle.rules.specs.Trace.{Reached, first-model, next-model, next-none, Ends, first-none, first-stopped, settled, next-stopped}
+use Rattle.rules.specs.Trace.{withLimits, Reached, first-model, next-model, next-none, Ends, first-none, first-stopped, settled, next-stopped}
 use Rattle.rules.proofs.RunTrace.{known, run-ends, first-none-of}
 use Rattle.rules.proofs.LogLaws.{logged, log-begun, stop-log, calls-opens-le, tries-le, LogAt}
 
@@ -38,8 +41,8 @@ use Rattle.rules.proofs.LogLaws.{logged, log-begun, stop-log, calls-ope
 
 pub models-first : {k : Task} {size : ℕ} {p : Progress} → Reached k size p → (rest : List Values) × (p .models ≡ p .first ∷ rest)
 models-first (first-model m t e) = ([], refl)
-models-first (next-model {p = p} n m t r o e) = let (rest, q) = models-first r in (rest ++ (m ∷ []), ap (λ (ms : List Values). ms ++ (m ∷ [])) q)
-models-first (next-none n t r o e) = models-first r
+models-first (next-model {p = p} m t r o e) = let (rest, q) = models-first r in (rest ++ (m ∷ []), ap (λ (ms : List Values). ms ++ (m ∷ [])) q)
+models-first (next-none t r o e d) = models-first r
 
 -- ---- what a progress says
 
@@ -132,7 +135,7 @@ ends-shown : {k : Task} {e : Ended} → Ends k e → Shown k (e .progress)
 ends-shown (first-none t e) = nothing-yet refl
 ends-shown (first-stopped t e) = nothing-yet refl
 ends-shown (settled r o) = let (rest, q) = models-first r in by-models (known r) rest q
-ends-shown (next-stopped n t r o e) = let (rest, q) = models-first r in by-models (known r) rest q
+ends-shown (next-stopped t r o e) = let (rest, q) = models-first r in by-models (known r) rest q
 
 module _ (k : Task) (limit : 1 ≤ k .limit) where
   shown : Shown k (run k .progress)
@@ -146,7 +149,7 @@ module _ (k : Task) (limit : 1 ≤ k .limit) where
       go (first-none t e) = inr (inl refl)
       go (first-stopped t e) = inr (inr refl)
       go (settled r o) = inl refl
-      go (next-stopped n t r o e) = inr (inr refl)
+      go (next-stopped t r o e) = inr (inr refl)
 
   -- there is a status for each variable, and it is 0, 1, 2 or 3
   pub run-statuses : (length (run k .progress .statuses) ≡ k .vars) × ((i : ℕ) → statusAt (run k .progress .statuses) i ≤ 3)
@@ -183,7 +186,11 @@ module _ (k : Task) (limit : 1 ≤ k .limit) where
       go (first-none t e) z = absurd (let y : _≡_ {A = ℕ} 0 1 = cc in omega arith)
       go (first-stopped t e) z = absurd (let y : _≡_ {A = ℕ} 0 1 = cc in omega arith)
       go (settled r o) z = (known r, o)
-      go (next-stopped n t r o e) z = absurd (let y : _≡_ {A = ℕ} 0 1 = cc in omega arith)
+      go (next-stopped t r o e) z = absurd (let y : _≡_ {A = ℕ} 0 1 = cc in omega arith)
+
+  -- a settled run leaves no variable open
+  pub settled-none-open : run k .answer ≡ RunAnswer.Settled → (i : ℕ) → statusAt (run k .progress .statuses) i ≢ 0
+  settled-none-open a i = no-open (run k .progress .statuses) (settled-known a .1) i
 
   -- a settled run marks a literal forced exactly if a model exists and all models contain it
   pub settled-forced : run k .answer ≡ RunAnswer.Settled → (l : ℤ) → LitUpTo (k .vars) l → isForcedTo (run k .progress .statuses) l ↔ Forced (k .vars) (k .formula) l
@@ -202,10 +209,58 @@ module _ (k : Task) (limit : 1 ≤ k .limit) where
           record { none = λ m x. first-none-of k t e .none-from m (blank-extends (k .vars) m (x .len)) (x .total) (x .all-true) }
       sound (first-stopped t e) z = absurd (let y : _≡_ {A = ℕ} 0 1 = cc in omega arith)
       sound (settled r o) z = absurd (let y : _≡_ {A = ℕ} 0 1 = cc in omega arith)
-      sound (next-stopped n t r o e) z = absurd (let y : _≡_ {A = ℕ} 0 1 = cc in omega arith)
+      sound (next-stopped t r o e) z = absurd (let y : _≡_ {A = ℕ} 0 1 = cc in omega arith)
 
       complete : {e : Ended} → Ends k e → e .answer ≢ RunAnswer.Stopped → NoModel (k .vars) (k .formula) → e .answer ≡ RunAnswer.NoModel
       complete (first-none t e) z f = refl
       complete (first-stopped t e) z f = absurd (z refl)
       complete (settled {p = p} r o) z f = absurd (f .none (p .first) (first-model-is (known r)))
-      complete (next-stopped n t r o e) z f = absurd (z refl)
+      complete (next-stopped t r o e) z f = absurd (z refl)
+
+-- ---- two settled runs of one formula
+
+forcedValue-inj : (s t : ℕ) → 2 ≤ s → s ≤ 3 → 2 ≤ t → t ≤ 3 → forcedValue s ≡ forcedValue t → s ≡ t
+forcedValue-inj zero t a b c d e = absurd (omega arith)
+forcedValue-inj (suc zero) t a b c d e = absurd (omega arith)
+forcedValue-inj (suc (suc s)) zero a b c d e = absurd (omega arith)
+forcedValue-inj (suc (suc s)) (suc zero) a b c d e = absurd (omega arith)
+forcedValue-inj (suc (suc zero)) (suc (suc zero)) a b c d e = refl
+forcedValue-inj (suc (suc zero)) (suc (suc (suc t))) a b c d e = absurd (omega arith)
+forcedValue-inj (suc (suc (suc s))) (suc (suc zero)) a b c d e = absurd (omega arith)
+forcedValue-inj (suc (suc (suc s))) (suc (suc (suc t))) a b c d e = omega arith
+
+pub settled-same : (k : Task) (budget limit : ℕ) → 1 ≤ k .limit → 1 ≤ limit → run k .answer ≡ RunAnswer.Settled
+    → run (withLimits k budget limit) .answer ≡ RunAnswer.Settled
+    → run k .progress .statuses ≡ run (withLimits k budget limit) .progress .statuses
+settled-same k budget limit h g a b =
+    ext-getD 1 ss ts (run-statuses k h .0 ∙ sym (run-statuses j g .0)) (λ i l. same i (kinds k h a i) (kinds j g b i) (rw (run-statuses k h .0) at l))
+  where
+    j : Task
+    j = withLimits k budget limit
+
+    ss : List ℕ
+    ss = run k .progress .statuses
+
+    ts : List ℕ
+    ts = run j .progress .statuses
+
+    kinds : (n : Task) (q : 1 ≤ n .limit) → run n .answer ≡ RunAnswer.Settled → (i : ℕ)
+        → (statusAt (run n .progress .statuses) i ≡ 1) ⊎ (2 ≤ statusAt (run n .progress .statuses) i)
+    kinds n q e i = free-or-forced (statusAt (run n .progress .statuses) i) (settled-none-open n q e i)
+
+    -- free in the one: models differ on it, so it is free in the other
+    free-both : (i : ℕ) → i < k .vars → (statusAt ss i ≡ 1) ↔ (statusAt ts i ≡ 1)
+    free-both i l =
+        let one = settled-free k h a i l in
+        let two = settled-free j g b i l in
+        (λ e. two .1 (one .0 e), λ e. one .1 (two .0 e))
+
+    same : (i : ℕ) → (statusAt ss i ≡ 1) ⊎ (2 ≤ statusAt ss i) → (statusAt ts i ≡ 1) ⊎ (2 ≤ statusAt ts i) → i < k .vars → statusAt ss i ≡ statusAt ts i
+    same i (inl e) q l = e ∙ sym (free-both i l .0 e)
+    same i (inr p) (inl e) l = free-both i l .1 e ∙ sym e
+    same i (inr p) (inr q) l =
+        let (w, z) = settled-known k h a in
+        let (v, y) = settled-known j g b in
+        let m = first-model-is w in
+        forcedValue-inj (statusAt ss i) (statusAt ts i) p (w .small i) q (v .small i)
+        (sym (w .forced i p (run k .progress .first) m) ∙ v .forced i q (run k .progress .first) m)

@@ -7,6 +7,7 @@
 --   literalAt-true, literalAt-negated     the literal at an index, and its negation
 --   ForcedMore, forceFirst-counts n open variables become forced, and nothing else changes
 --   length-forceFirst, forceFirst-at      what an index holds then
+--   ForcedIn, chunk-forced        each literal of the chunk was open, and is forced then
 --   length-forcedValues, forcedValues-at, forcedValue-forcedBy, forcedValue-le     the values of the forced literals
 --
 -- Assumes nothing.
@@ -158,6 +159,28 @@ forceFirst-at j (b ∷ m) (zero ∷ ss) (suc n) (suc i) = go (forceFirst-at (suc
     go (inr (e, h)) = inr (e, rw (add-suc, ← suc-add) (List·Memᴰ·tail h))
 forceFirst-at j (b ∷ m) (suc s ∷ ss) n zero = inl refl
 forceFirst-at j (b ∷ m) (suc s ∷ ss) n (suc i) = rw (add-suc, ← suc-add) (forceFirst-at (suc j) m ss n i)
+
+-- l is a literal of the first model, of a variable that was open and is forced then; the first variable stands at index j
+pub record ForcedIn (j : ℕ) (m : Values) (ss : List ℕ) (n : ℕ) (l : ℤ) : Type 0 where
+  pub index : ℕ
+  pub literal : l ≡ literalAt (j + index) (valueAt m index)
+  pub forced : statusAt (forceFirst m ss n) index ≡ forcedBy (valueAt m index)
+  pub was-open : statusAt ss index ≡ 0
+
+pub chunk-forced : (j : ℕ) (m : Values) (ss : List ℕ) (n : ℕ) {l : ℤ} → In l (take n (candidatesFrom j m ss)) → ForcedIn j m ss n l
+chunk-forced j [] ss zero h = absurd (List·Memᴰ·not-nil h)
+chunk-forced j [] ss (suc n) h = absurd (List·Memᴰ·not-nil h)
+chunk-forced j (b ∷ m) [] zero h = absurd (List·Memᴰ·not-nil h)
+chunk-forced j (b ∷ m) [] (suc n) h = absurd (List·Memᴰ·not-nil h)
+chunk-forced j (b ∷ m) (zero ∷ ss) zero h = absurd (List·Memᴰ·not-nil h)
+chunk-forced j (b ∷ m) (zero ∷ ss) (suc n) (List·Memᴰ·head e) =
+    record { index = 0; literal = rw add-zero e; forced = refl; was-open = refl }
+chunk-forced j (b ∷ m) (zero ∷ ss) (suc n) (List·Memᴰ·tail h) =
+    let f = chunk-forced (suc j) m ss n h in
+    record { index = suc (f .index); literal = rw (add-suc, ← suc-add) (f .literal); forced = f .forced; was-open = f .was-open }
+chunk-forced j (b ∷ m) (suc s ∷ ss) n h =
+    let f = chunk-forced (suc j) m ss n h in
+    record { index = suc (f .index); literal = rw (add-suc, ← suc-add) (f .literal); forced = f .forced; was-open = f .was-open }
 
 -- ---- the values of the forced literals
 

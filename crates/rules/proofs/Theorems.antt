@@ -5,8 +5,8 @@ use mathlib.Core.Logic.{_≢_, _⊎_, _↔_}
 use mathlib.Core.Bool.{true}
 use mathlib.Core.List.{List, [], _∷_, _++_}
 use mathlib.Core.Option.{none, some}
-use Prim.Native.Nat.{ℕ, _+_, _≤_, _<_}
-use lib.IntN.{ℤ}
+use Prim.Native.Nat.{ℕ, suc, _+_, _≤_, _<_}
+use lib.IntN.{ℤ, pos, negsuc}
 use lib.ListN.{length, take, drop, replicate}
 use Rattle.rules.specs.declared.ReadAnswer.{ReadAnswer}
 use Rattle.rules.specs.declared.Reading.{Reading}
@@ -14,26 +14,30 @@ use Rattle.rules.specs.declared.RunAnswer.{RunAnswer}
 use Rattle.rules.specs.declared.Report.{Report}
 use Rattle.rules.specs.declared.ClauseState.the-variants.{False}
 use Rattle.rules.specs.Lists.{In, count}
-use Rattle.rules.specs.Numbers.{maxEntries}
+use Rattle.rules.specs.Numbers.{maxEntries, readNumber, readPlace}
 use Rattle.rules.specs.Text.{Sizes}
 use Rattle.rules.specs.Reading.{readingOf, filled, entriesAfter, Reads}
 use Rattle.rules.specs.Grammar.{Dimacs}
 use Rattle.rules.specs.Refusals.{Refuses}
-use Rattle.rules.specs.Plain.{plain, entriesOf, Within}
+use Rattle.rules.specs.Plain.{decimal, plain, entriesOf, Within}
 use Rattle.rules.specs.Meaning.{Clause, Values, clauses, LitUpTo, Proper}
 use Rattle.rules.specs.Closing.{stateOf, under-way, round, again, closing, Closed, clash, closed}
 use Rattle.rules.specs.Visits.{Visits, Quiet}
-use Rattle.rules.specs.Search.{Call, model, no-model, stopped, triesOf, callOn}
-use Rattle.rules.specs.Units.{units}
+use Rattle.rules.specs.Search.{model, no-model, triesOf, onClosed, callOn}
+use Rattle.rules.specs.Units.{forcedClauses}
 use Rattle.rules.specs.Models.{Covers, LeastModel, NoModelFrom, NoModel, Forced, Free, WitnessOf}
-use Rattle.rules.specs.Run.{Task, Progress, statusAt, isForcedTo, forcedValues, chunkOf, constraint, chunkCall, blank, run}
-use Rattle.rules.specs.Answer.{Given, logLength, refusalOf, taskOf, reportOf, statusAfter, logOfRows, logAfter, isFree, isForced, Runs}
+use Rattle.rules.specs.Run.{Task, Progress, statusAt, isForcedTo, opens, chunkOf, constraint, chunkCall, blank, onOpen, chunks, Ended, run}
+use Rattle.rules.specs.Trace.{Takes, Reached, Ends, Leaves, withLimits}
+use Rattle.rules.specs.Answer.{Given, logLength, refusalOf, taskOf, reportOfRun, reportOf, statusAfter, logOfRows, logAfter, isFree, isForced, Runs}
 use Rattle.rules.specs.RunRefusals.{Accepted, RunRefuses}
 use Rattle.rules.specs.Log.{LogOf}
-use Rattle.rules.specs.Printed.{tableOf, maxTable, Prints}
+use Rattle.rules.specs.Printed.{forcedWord, freeWord, onWord, offWord, refusedLine, tableOfRun, tableOf, maxTable, Prints}
+use Rattle.rules.specs.Tables.{lineAt, SaysAnswer, tableTask}
 use Rattle.rules.proofs.ClosingLaws as closing-laws
 use Rattle.rules.proofs.ClosingOrder as closing-order
 use Rattle.rules.proofs.SearchLaws as search-laws
+use Rattle.rules.proofs.CallLaws as call-laws
+use Rattle.rules.proofs.RunTrace as run-trace
 use Rattle.rules.proofs.RunNext as run-next
 use Rattle.rules.proofs.RunTheorems as run-theorems
 use Rattle.rules.proofs.CallTheorems as call-theorems
@@ -43,19 +47,27 @@ use Rattle.rules.proofs.ReadingTheorems as reading
 use Rattle.rules.proofs.TextTheorems as texts
 use Rattle.rules.proofs.PrintedLaws as printed
 use Rattle.rules.proofs.TableLaws as table-laws
+use Rattle.rules.proofs.TableTheorems as tables
 
 -- ---- the reader
 
 -- A text is accepted, with V, C, its entries and the buffer filled, exactly if the grammar derives it.
-pub reader-agrees : (text : List ℕ) (before : List ℤ) → maxEntries ≤ length before → (s : Sizes) (es : List ℤ) → Dimacs text (s .vars) (s .clauses) es ↔ ((readingOf text before ≡ record { answer = ReadAnswer.Accepted; vars = s .vars; clauses = s .clauses; entries = length es }) × (entriesAfter text before ≡ filled es before))
+pub reader-agrees : (text : List ℕ) (before : List ℤ) → maxEntries ≤ length before → (s : Sizes) (es : List ℤ)
+    → Dimacs text (s .vars) (s .clauses) es
+    ↔ ((readingOf text before ≡ record { answer = ReadAnswer.Accepted; vars = s .vars; clauses = s .clauses; entries = length es })
+    × (entriesAfter text before ≡ filled es before))
 reader-agrees = reading.read-accepts
 
 -- Each refusal number is given exactly when its rule says so.
-pub reader-refuses : (text : List ℕ) (before : List ℤ) (a : ReadAnswer) → a ≢ ReadAnswer.Accepted → (readingOf text before .answer ≡ a) ↔ Refuses (length before) text a
+pub reader-refuses : (text : List ℕ) (before : List ℤ) (a : ReadAnswer) → a ≢ ReadAnswer.Accepted
+    → (readingOf text before .answer ≡ a) ↔ Refuses (length before) text a
 reader-refuses = reading.read-refuses
 
 -- Every formula within the sizes, printed plainly, is read back as itself.
-pub reader-round-trip : (vars : ℕ) (F : List Clause) (before : List ℤ) → Within vars F → maxEntries ≤ length before → (readingOf (plain vars F) before ≡ record { answer = ReadAnswer.Accepted; vars = vars; clauses = length F; entries = length (entriesOf F) }) × (entriesAfter (plain vars F) before ≡ filled (entriesOf F) before) × (clauses (entriesOf F) ≡ F)
+pub reader-round-trip : (vars : ℕ) (F : List Clause) (before : List ℤ) → Within vars F → maxEntries ≤ length before
+    → (readingOf (plain vars F) before ≡ record { answer = ReadAnswer.Accepted; vars = vars; clauses = length F; entries = length (entriesOf F) })
+    × (entriesAfter (plain vars F) before ≡ filled (entriesOf F) before)
+    × (clauses (entriesOf F) ≡ F)
 reader-round-trip = texts.round-trip
 
 -- ---- closing
@@ -69,7 +81,8 @@ pub visits-any-order : {F : List Clause} {vs ws : Values} → Proper vs → Visi
 visits-any-order = closing-order.visits-closed
 
 -- Visits in any order that come to a false clause mean a clash.
-pub visits-any-clash : {F : List Clause} {vs ws : Values} {cl : Clause} → Proper vs → Visits F vs ws → In cl F → stateOf ws cl ≡ False → closing F vs ≡ clash
+pub visits-any-clash : {F : List Clause} {vs ws : Values} {cl : Clause} → Proper vs → Visits F vs ws → In cl F → stateOf ws cl ≡ False
+    → closing F vs ≡ clash
 visits-any-clash = closing-order.visits-clash
 
 -- Closing goes by rounds until one sets nothing or stops at a false clause.
@@ -82,21 +95,31 @@ closed-is-quiet = closing-laws.closing-quiet
 
 -- ---- the search
 
+-- Going on means: close; on a clash there is no model here; if all variables are set, this is the model; otherwise try the lowest
+-- unset variable false, then, if that finds nothing, true.
+pub search-goes-on : (budget : ℕ) (F : List Clause) (vs : Values) (t : ℕ)
+    → callOn budget F vs t ≡ onClosed (closing F vs) budget (λ ws u. callOn budget F ws u) t
+search-goes-on = call-laws.callOn-next
+
 -- A model found is total, satisfies every clause, extends the start, and is the first from variable 1 up, false before true.
-pub search-model : (budget : ℕ) (F : List Clause) (vs : Values) (t : ℕ) (m : Values) (u : ℕ) → Proper vs → callOn budget F vs t ≡ model m u → LeastModel F vs m
+pub search-model : (budget : ℕ) (F : List Clause) (vs : Values) (t : ℕ) (m : Values) (u : ℕ) → Proper vs
+    → callOn budget F vs t ≡ model m u → LeastModel F vs m
 search-model = search-laws.callOn-model
 
 -- "None" means that no model extends the start.
-pub search-none : (budget : ℕ) (F : List Clause) (vs : Values) (t u : ℕ) → Proper vs → callOn budget F vs t ≡ no-model u → NoModelFrom F vs
+pub search-none : (budget : ℕ) (F : List Clause) (vs : Values) (t u : ℕ) → Proper vs
+    → callOn budget F vs t ≡ no-model u → NoModelFrom F vs
 search-none = search-laws.callOn-none
 
 -- Tries never exceed the budget.
 pub search-tries : (budget : ℕ) (F : List Clause) (vs : Values) (t : ℕ) → t ≤ budget → triesOf (callOn budget F vs t) ≤ budget
 search-tries budget F vs t h = search-laws.callOn-tries budget F vs t .within h
 
--- A call that starts from the forced values is the page's call, on the formula, the forced literals as one-literal clauses, and the
--- constraint.
-pub call-as-page : (k : Task) (p : Progress) (n : ℕ) → chunkCall k p n ≡ callOn (k .budget) (k .formula ++ units 0 (forcedValues (p .statuses)) ++ constraint (chunkOf p n) ∷ []) (blank (length (p .statuses))) (p .tries)
+-- A call that starts from the forced values is the call of the rules: on the formula, the forced literals as one-literal clauses, read
+-- off the statuses 2 and 3, and the constraint.
+pub call-as-page : (k : Task) (p : Progress) (n : ℕ)
+    → chunkCall k p n
+    ≡ callOn (k .budget) (k .formula ++ forcedClauses 0 (p .statuses) ++ constraint (chunkOf p n) ∷ []) (blank (length (p .statuses))) (p .tries)
 call-as-page = run-next.chunkCall-units
 
 -- ---- the run's refusals and buffers
@@ -110,26 +133,64 @@ pub run-acceptance : (g : Given) → (refusalOf g ≡ none) ↔ Accepted g
 run-acceptance = refused-runs.run-accepted
 
 -- A refused run returns zero counts and writes nothing.
-pub run-refused-nothing : (g : Given) (a : RunAnswer) → RunRefuses g a → (reportOf g ≡ record { answer = a; calls = 0; tries = 0; forced = 0; free = 0 }) × (statusAfter g ≡ g .status) × (logAfter g ≡ g .log)
+pub run-refused-nothing : (g : Given) (a : RunAnswer) → RunRefuses g a
+    → (reportOf g ≡ record { answer = a; calls = 0; tries = 0; forced = 0; free = 0 }) × (statusAfter g ≡ g .status) × (logAfter g ≡ g .log)
 run-refused-nothing = buffers.refused-writes-nothing
 
 -- An accepted run writes the statuses into the first V bytes, and leaves the rest.
-pub run-status : (g : Given) → Accepted g → (take (g .vars) (statusAfter g) ≡ run (taskOf g) .progress .statuses) × (drop (g .vars) (statusAfter g) ≡ drop (g .vars) (g .status))
+pub run-status : (g : Given) → Accepted g
+    → (take (g .vars) (statusAfter g) ≡ run (taskOf g) .progress .statuses)
+    × (drop (g .vars) (statusAfter g) ≡ drop (g .vars) (g .status))
 run-status = buffers.status-written
 
 -- It writes its rows and zeros for rows not used into the first 6(V + 1) numbers, and leaves the rest.
-pub run-log-buffer : (g : Given) → Accepted g → (take (logLength (g .vars)) (logAfter g) ≡ logOfRows (g .vars) (run (taskOf g) .progress .rows)) × (drop (logLength (g .vars)) (logAfter g) ≡ drop (logLength (g .vars)) (g .log))
+pub run-log-buffer : (g : Given) → Accepted g
+    → (take (logLength (g .vars)) (logAfter g) ≡ logOfRows (g .vars) (run (taskOf g) .progress .rows))
+    × (drop (logLength (g .vars)) (logAfter g) ≡ drop (logLength (g .vars)) (g .log))
 run-log-buffer = buffers.log-written
 
 -- ---- the run, for every accepted task
 
 module _ (k : Task) (limit : 1 ≤ k .limit) where
+  -- A run ends as the rules tell it call by call, and in no other way.
+  pub run-ends : Ends k (run k)
+  run-ends = run-trace.run-ends k limit
+
+  pub run-ends-only : {e : Ended} → Ends k e → e ≡ run k
+  run-ends-only = run-next.ends-run limit
+
+  -- While candidates remain there is a call, and then the run goes on; otherwise it is settled.
+  pub run-goes-on : {size : ℕ} {p : Progress} → Reached k size p
+      → chunks k size p ≡ onOpen (opens (p .statuses)) k size p (λ s q. chunks k s q)
+  run-goes-on = run-next.chunks-next limit
+
+  -- After the first, a call that finds a model leaves more variables free than before, one that finds none leaves exactly its chunk
+  -- more forced, and nothing else changes; a stopped call changes nothing.
+  pub call-settles : {size chunk : ℕ} {p : Progress} → Reached k size p → Takes size p chunk → Leaves (chunkCall k p chunk) k p chunk
+  call-settles = run-trace.call-leaves limit
+
+  -- There is a status for each variable, and it is 0, 1, 2 or 3.
+  pub status-for-each : (length (run k .progress .statuses) ≡ k .vars) × ((i : ℕ) → statusAt (run k .progress .statuses) i ≤ 3)
+  status-for-each = run-theorems.run-statuses k limit
+
+  -- A settled run leaves no variable open.
+  pub settled-none-open : run k .answer ≡ RunAnswer.Settled → (i : ℕ) → statusAt (run k .progress .statuses) i ≢ 0
+  settled-none-open = run-theorems.settled-none-open k limit
+
+  -- Budget and chunk limit never change a settled status.
+  pub settled-same : (budget chunk-limit : ℕ) → 1 ≤ chunk-limit → run k .answer ≡ RunAnswer.Settled
+      → run (withLimits k budget chunk-limit) .answer ≡ RunAnswer.Settled
+      → run k .progress .statuses ≡ run (withLimits k budget chunk-limit) .progress .statuses
+  settled-same budget chunk-limit h = run-theorems.settled-same k budget chunk-limit limit h
+
   -- A settled run marks a literal forced exactly if a model exists and all models contain it.
-  pub settled-forced : run k .answer ≡ RunAnswer.Settled → (l : ℤ) → LitUpTo (k .vars) l → isForcedTo (run k .progress .statuses) l ↔ Forced (k .vars) (k .formula) l
+  pub settled-forced : run k .answer ≡ RunAnswer.Settled → (l : ℤ) → LitUpTo (k .vars) l
+      → isForcedTo (run k .progress .statuses) l ↔ Forced (k .vars) (k .formula) l
   settled-forced = run-theorems.settled-forced k limit
 
   -- A settled run marks a variable free exactly if two models differ on it.
-  pub settled-free : run k .answer ≡ RunAnswer.Settled → (i : ℕ) → i < k .vars → (statusAt (run k .progress .statuses) i ≡ 1) ↔ Free (k .vars) (k .formula) i
+  pub settled-free : run k .answer ≡ RunAnswer.Settled → (i : ℕ) → i < k .vars
+      → (statusAt (run k .progress .statuses) i ≡ 1) ↔ Free (k .vars) (k .formula) i
   settled-free = run-theorems.settled-free k limit
 
   -- A run that is not stopped answers "no model" exactly if there is none.
@@ -142,7 +203,8 @@ module _ (k : Task) (limit : 1 ≤ k .limit) where
 
   -- However a run ends, every variable marked free has a model of that run, or one with this variable alone flipped that is still a
   -- model, that differs on it from the run's first model.
-  pub free-witness : (i : ℕ) → i < k .vars → statusAt (run k .progress .statuses) i ≡ 1 → WitnessOf (k .vars) (k .formula) (run k .progress .models) i
+  pub free-witness : (i : ℕ) → i < k .vars → statusAt (run k .progress .statuses) i ≡ 1
+      → WitnessOf (k .vars) (k .formula) (run k .progress .models) i
   free-witness = run-theorems.run-free k limit
 
   -- Calls begun are at most V + 1.
@@ -150,16 +212,19 @@ module _ (k : Task) (limit : 1 ≤ k .limit) where
   calls-bound = call-theorems.run-calls k limit
 
   -- Tries never exceed the budget, and a run is stopped only when they are spent.
-  pub tries-bound : (run k .progress .tries ≤ k .budget) × (run k .answer ≡ RunAnswer.Stopped → run k .progress .tries ≡ k .budget)
+  pub tries-bound : (run k .progress .tries ≤ k .budget)
+      × (run k .answer ≡ RunAnswer.Stopped → run k .progress .tries ≡ k .budget)
   tries-bound = (call-theorems.run-tries k limit, call-theorems.stopped-spent k limit)
 
   -- Rows are numbered from 1; after the first, a call with a model drops at least one candidate and one without forces at least one;
   -- both drop columns add up to the number free, the chunks of later rows that say 2 to the number forced, and the tries to all tries.
-  pub log-adds-up : LogOf (run k .progress .rows) (count isFree (run k .progress .statuses)) (count isForced (run k .progress .statuses)) (run k .progress .tries)
+  pub log-adds-up :
+      LogOf (run k .progress .rows) (count isFree (run k .progress .statuses)) (count isForced (run k .progress .statuses)) (run k .progress .tries)
   log-adds-up = call-theorems.run-log k limit
 
   -- After "no model" all variables are open, and the log has one row.
-  pub no-model-table : run k .answer ≡ RunAnswer.NoModel → (run k .progress .statuses ≡ replicate (k .vars) 0) × (length (run k .progress .rows) ≡ 1)
+  pub no-model-table : run k .answer ≡ RunAnswer.NoModel
+      → (run k .progress .statuses ≡ replicate (k .vars) 0) × (length (run k .progress .rows) ≡ 1)
   no-model-table = call-theorems.no-model-table k limit
 
 -- ---- the printed table
@@ -168,16 +233,47 @@ module _ (k : Task) (limit : 1 ≤ k .limit) where
 pub table-bound : (text : List ℕ) → length (tableOf text) ≤ maxTable
 table-bound = table-laws.length-tableOf
 
+-- A refused text gets the line of its refusal and nothing else.
+pub table-refused : (text : List ℕ) (a : ReadAnswer) → Refuses maxEntries text a → tableOf text ≡ refusedLine (readNumber a) (readPlace a)
+table-refused = tables.table-refused
+
+module _ {text : List ℕ} {vars n : ℕ} {es : List ℤ} (d : Dimacs text vars n es) where
+  -- The table of a text is that of the run on its entries, with budget 1,000,000 and chunk limit 16.
+  pub table-of-run : tableOf text ≡ tableOfRun vars (reportOfRun (run (tableTask vars es))) (run (tableTask vars es) .progress .statuses)
+  table-of-run = tables.table-of-run d
+
+  -- If its first line says answer 0, the line of a variable says `forced on` exactly if a model exists and all models make it true,
+  pub table-forced-on : SaysAnswer 0 (tableOf text) → (i : ℕ) → i < vars
+      → (lineAt (tableOf text) (suc i) ≡ decimal (suc i) ++ (forcedWord ++ onWord)) ↔ Forced vars (clauses es) (pos (suc i))
+  table-forced-on = tables.table-forced-on d
+
+  -- `forced off` exactly if a model exists and all models make it false,
+  pub table-forced-off : SaysAnswer 0 (tableOf text) → (i : ℕ) → i < vars
+      → (lineAt (tableOf text) (suc i) ≡ decimal (suc i) ++ (forcedWord ++ offWord)) ↔ Forced vars (clauses es) (negsuc i)
+  table-forced-off = tables.table-forced-off d
+
+  -- and `free` exactly if two models differ on it.
+  pub table-free : SaysAnswer 0 (tableOf text) → (i : ℕ) → i < vars
+      → (lineAt (tableOf text) (suc i) ≡ decimal (suc i) ++ freeWord) ↔ Free vars (clauses es) i
+  table-free = tables.table-free d
+
+  -- Unless its first line says answer 21, it says 20 exactly if there is no model.
+  pub table-no-model : (SaysAnswer 21 (tableOf text) → ⊥) → SaysAnswer 20 (tableOf text) ↔ NoModel vars (clauses es)
+  table-no-model = tables.table-no-model d
+
 -- ---- no second result
 
 -- One result and one buffer satisfy the reader's contract.
-pub reads-unique : {text : List ℕ} {before : List ℤ} {r r′ : Reading} {b b′ : List ℤ} → Reads text before r b → Reads text before r′ b′ → (r ≡ r′) × (b ≡ b′)
+pub reads-unique : {text : List ℕ} {before : List ℤ} {r r′ : Reading} {b b′ : List ℤ}
+    → Reads text before r b → Reads text before r′ b′ → (r ≡ r′) × (b ≡ b′)
 reads-unique = reading.reads-unique
 
 -- One result and two buffers satisfy the run's contract.
-pub runs-unique : {g : Given} {r r′ : Report} {s s′ l l′ : List ℕ} → Runs g r s l → Runs g r′ s′ l′ → (r ≡ r′) × (s ≡ s′) × (l ≡ l′)
+pub runs-unique : {g : Given} {r r′ : Report} {s s′ l l′ : List ℕ}
+    → Runs g r s l → Runs g r′ s′ l′ → (r ≡ r′) × (s ≡ s′) × (l ≡ l′)
 runs-unique = buffers.runs-unique
 
 -- One number and one buffer satisfy the printed table's contract.
-pub prints-unique : {text before : List ℕ} {n n′ : ℕ} {b b′ : List ℕ} → Prints text before n b → Prints text before n′ b′ → (n ≡ n′) × (b ≡ b′)
+pub prints-unique : {text before : List ℕ} {n n′ : ℕ} {b b′ : List ℕ}
+    → Prints text before n b → Prints text before n′ b′ → (n ≡ n′) × (b ≡ b′)
 prints-unique = printed.prints-unique

@@ -27,11 +27,11 @@ use Rattle.rules.specs.Text.{Piece, Sizes, linesOf, tokensFrom, isSkippe
 use Rattle.rules.specs.Reading.{Judged, accepted, refused, isZero, behind, fits, judgeEnd, judgeTokens, judgeHeader, judgeLines, judge}
 use Rattle.rules.specs.Grammar.{Header}
 use Rattle.rules.specs.Refusals.{Begun, FirstLine, Headed, Fine, AtToken, Refuses, buffer-short, text-long, no-header, bad-header, header-large, bad-token, token-after-last, variable-above, entry-over, ends-early}
-use Rattle.rules.proofs.ListLaws.{not-true, and-left, and-right}
+use Rattle.rules.proofs.ListLaws.{le-or-lt, not-true, and-left, and-right}
 use Rattle.rules.proofs.TokenLaws.{not-none}
 use Rattle.rules.proofs.HeaderLaws.{header-sound, header-complete, header-none}
 use Rattle.rules.proofs.LineLaws.{first-line-sound, first-line-exists}
-use Rattle.rules.proofs.JudgeLaws.{le-or-lt, Passes, count-of-passes, fine-of-passes, passes-of-fine, Stop, bad, after-last, above, over, Stopped, tokens-cases, withEntries, withEntries-refused, withEntries-accepted, judgeTokens-end, judgeTokens-stopped}
+use Rattle.rules.proofs.JudgeLaws.{Passes, count-of-passes, fine-of-passes, passes-of-fine, Stop, bad, after-last, above, over, Stopped, tokens-cases, withEntries, withEntries-refused, withEntries-accepted, judgeTokens-end, judgeTokens-stopped}
 
 abbrev pub tokensOf : List ℕ → Piece → List Piece
 tokensOf text line = tokensFrom (behind line) (drop (behind line) text)

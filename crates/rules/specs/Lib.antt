@@ -11,9 +11,10 @@ pub mod Visits
 pub mod Search
 pub mod Units
 pub mod Run
-pub mod Trace
 pub mod Answer
+pub mod Trace
 pub mod RunRefusals
 pub mod Log
 pub mod Models
 pub mod Printed
+pub mod Tables

@@ -15,3 +15,14 @@ unitAt (suc (suc b)) j cls = (pos (suc j) ∷ []) ∷ cls
 abbrev pub units : ℕ → Values → List Clause
 units j [] = []
 units j (b ∷ vs) = unitAt b j (units (suc j) vs)
+
+-- one clause for each variable that a status says is forced, where the first stands at index j: 2 forced true, 3 forced false
+abbrev pub forcedAt : ℕ → ℕ → List Clause → List Clause
+forcedAt zero j cls = cls
+forcedAt (suc zero) j cls = cls
+forcedAt (suc (suc zero)) j cls = (pos (suc j) ∷ []) ∷ cls
+forcedAt (suc (suc (suc s))) j cls = (negsuc j ∷ []) ∷ cls
+
+abbrev pub forcedClauses : ℕ → List ℕ → List Clause
+forcedClauses j [] = []
+forcedClauses j (s ∷ ss) = forcedAt s j (forcedClauses (suc j) ss)

@@ -1,0 +1,315 @@
+-- The printed table says what models say (docs/RULES.md, "The printed table"): for every text of the grammar it is the table of the
+-- run on its entries, its first line says that run's answer, and the line of each variable that variable's status.
+--
+--   table-refused     a refused text
+--   table-of-run      the table is that of the run with budget 1,000,000 and chunk limit 16
+--   says-answer       the answer that the first line says
+--   line-says         the words of a variable's line say its status
+--   table-forced-on, table-forced-off, table-free     what a settled table says of models
+--   table-no-model    when it says that there is none
+--
+-- Assumes nothing.
+use mathlib.Core.Path.{_≡_, refl, sym, _∙_, ap}
+use mathlib.Core.Logic.{_≢_, _⊎_, inl, inr, _↔_}
+use mathlib.Core.Bool.{Bool, true, false, cond, _||_}
+use mathlib.Core.List.{List, [], _∷_, _++_, append-assoc, append-nil, append-cancel-left}
+use mathlib.Core.Option.{Option, none}
+use Prim.Native.Nat.{ℕ, zero, suc, _+_, _-_, _≤_, _<_}
+use native.Mathlib.Omega.{arith}
+use native.Mathlib.Nat.{add-zero, add-suc, suc-add}
+use lib.Dec.{eqb}
+use lib.IntN.{ℤ, pos, negsuc}
+use lib.ListN.{length, getD, drop, replicate, length-replicate, drop-of-length-le}
+use borrow.Author.Tests.{ne-eqb}
+use Rattle.rules.specs.declared.ReadAnswer.{ReadAnswer}
+use Rattle.rules.specs.declared.RunAnswer.{RunAnswer}
+use Rattle.rules.specs.declared.Report.{Report}
+use Rattle.rules.specs.Lists.{any, cut, joined}
+use Rattle.rules.specs.Numbers.{maxEntries, readNumber, readPlace, runNumber}
+use Rattle.rules.specs.Text.{isLf, isDigit, Sizes}
+use Rattle.rules.specs.Reading.{Judged, accepted, refused, judge}
+use Rattle.rules.specs.Grammar.{Dimacs}
+use Rattle.rules.specs.Refusals.{Refuses}
+use Rattle.rules.specs.Meaning.{LitUpTo, clauses}
+use Rattle.rules.specs.Models.{NoModel, Forced, Free}
+use Rattle.rules.specs.Plain.{decimal}
+use Rattle.rules.specs.Run.{Task, Ended, statusAt, run}
+use Rattle.rules.specs.Answer.{refusalOf, taskOf, reportOfRun, reportIf, reportOf, statusIf, statusAfter}
+use Rattle.rules.specs.Printed.{answerWord, callsWord, triesWord, forcedWord, freeWord, openWord, onWord, offWord}
+use Rattle.rules.specs.Printed.{refusedLine, answerLine, statusWords, statusLines, tableBy, tableOfRun, tableGiven, tableOfJudged, tableOf}
+use Rattle.rules.specs.Tables.{lineAt, SaysAnswer, tableTask}
+use Rattle.rules.proofs.ListLaws.{any-append}
+use Rattle.rules.proofs.CutLaws.{or-left, or-right, cut-piece}
+use Rattle.rules.proofs.TokenLaws.{any-of-all, digit-above}
+use Rattle.rules.proofs.GrammarLaws.{accepted-complete}
+use Rattle.rules.proofs.RefusalLaws.{refusal-complete}
+use Rattle.rules.proofs.DecimalLaws.{decimal-digits, decimal-inj}
+use Rattle.rules.proofs.RefusedRuns.{run-accepted}
+use Rattle.rules.proofs.RunTheorems.{run-answer, run-statuses, settled-forced, settled-free, no-model-exactly}
+use Rattle.rules.proofs.PrintedLaws.{table-runs}
+
+-- ---- the table of a text
+
+pub table-refused : (text : List ℕ) (a : ReadAnswer) → Refuses maxEntries text a → tableOf text ≡ refusedLine (readNumber a) (readPlace a)
+unfolding tableOf
+table-refused text a r = ap tableOfJudged (refusal-complete maxEntries text r)
+
+-- the report and the statuses of a run
+abbrev tableOfEnd : ℕ → Ended → List ℕ
+tableOfEnd vars e = tableOfRun vars (reportOfRun e) (e .progress .statuses)
+
+pub table-of-run : {text : List ℕ} {vars n : ℕ} {es : List ℤ} → Dimacs text vars n es
+    → tableOf text ≡ tableOfRun vars (reportOfRun (run (tableTask vars es))) (run (tableTask vars es) .progress .statuses)
+unfolding tableOf reportOf statusAfter
+table-of-run {text} {vars} {n} {es} d = ap tableOfJudged q ∙ rw ok (ap (tableOfRun vars (reportOfRun e)) whole)
+  where
+    s : Sizes
+    s = record { vars = vars; clauses = n }
+
+    e : Ended
+    e = run (tableTask vars es)
+
+    q : judge maxEntries text ≡ accepted s es
+    q = accepted-complete maxEntries text (omega arith) d
+
+    ok : refusalOf (tableGiven s es) ≡ none
+    ok = run-accepted (tableGiven s es) .1 (table-runs maxEntries text q)
+
+    whole : e .progress .statuses ++ drop vars (replicate vars 0) ≡ e .progress .statuses
+    whole =
+        ap (λ (xs : List ℕ). e .progress .statuses ++ xs) (drop-of-length-le (replicate vars 0) {i = vars} (omega (arith, length-replicate {A = ℕ} vars 0))) ∙
+        append-nil (e .progress .statuses)
+
+-- ---- no LF inside a line
+
+no-lf-append : (xs ys : List ℕ) → any isLf xs ≡ false → any isLf ys ≡ false → any isLf (xs ++ ys) ≡ false
+no-lf-append xs ys h k = any-append isLf xs ys ∙ rw (h, k)
+
+no-lf-decimal : (n : ℕ) → any isLf (decimal n) ≡ false
+no-lf-decimal n = any-of-all isDigit isLf (decimal n) (λ b d. ne-eqb b 10 (omega (arith, digit-above b d))) (decimal-digits n)
+
+no-lf-words : (s : ℕ) → any isLf (statusWords s) ≡ false
+no-lf-words zero = refl
+no-lf-words (suc zero) = refl
+no-lf-words (suc (suc zero)) = refl
+no-lf-words (suc (suc (suc s))) = refl
+
+-- the first line, less its LF, piece by piece
+abbrev answerPieces : ℕ → Report → List (List ℕ)
+answerPieces vars r =
+    answerWord ∷ decimal (runNumber (r .answer)) ∷
+    callsWord ∷ decimal (r .calls) ∷
+    triesWord ∷ decimal (r .tries) ∷
+    forcedWord ∷ (32 ∷ decimal (r .forced)) ∷
+    freeWord ∷ (32 ∷ decimal (r .free)) ∷
+    openWord ∷ (32 ∷ decimal (vars - r .forced - r .free)) ∷
+    []
+
+pieces : (a b c d e f g h i j k l z : List ℕ)
+    → a ++ b ++ c ++ d ++ e ++ f ++ g ++ h ++ i ++ j ++ k ++ l ++ z
+    ≡ joined (a ∷ b ∷ c ∷ d ∷ e ∷ f ∷ g ∷ h ∷ i ∷ j ∷ k ∷ l ∷ []) ++ z
+pieces a b c d e f g h i j k l z = simp append-assoc
+
+answer-line : (vars : ℕ) (r : Report) → answerLine vars r ≡ joined (answerPieces vars r) ++ 10 ∷ []
+answer-line vars r =
+    pieces answerWord (decimal (runNumber (r .answer))) callsWord (decimal (r .calls)) triesWord (decimal (r .tries))
+    forcedWord (32 ∷ decimal (r .forced)) freeWord (32 ∷ decimal (r .free)) openWord (32 ∷ decimal (vars - r .forced - r .free)) (10 ∷ [])
+
+no-lf-joined : (xss : List (List ℕ)) → any (λ xs. any isLf xs) xss ≡ false → any isLf (joined xss) ≡ false
+no-lf-joined [] h = refl
+no-lf-joined (xs ∷ xss) h =
+    no-lf-append xs (joined xss) (or-left (any isLf xs) (any (λ ys. any isLf ys) xss) h)
+    (no-lf-joined xss (or-right (any isLf xs) (any (λ ys. any isLf ys) xss) h))
+
+no-lf-pieces : (vars : ℕ) (r : Report) → any isLf (joined (answerPieces vars r)) ≡ false
+no-lf-pieces vars r =
+    no-lf-joined (answerPieces vars r)
+    (rw (no-lf-decimal (runNumber (r .answer)), no-lf-decimal (r .calls), no-lf-decimal (r .tries), no-lf-decimal (r .forced), no-lf-decimal (r .free), no-lf-decimal (vars - r .forced - r .free)))
+
+-- ---- the lines
+
+-- the first line, and what stands behind it
+first-line : (vars : ℕ) (r : Report) (rest : List ℕ) → cut isLf (answerLine vars r ++ rest) ≡ joined (answerPieces vars r) ∷ cut isLf rest
+first-line vars r rest =
+    ap (λ (xs : List ℕ). cut isLf (xs ++ rest)) (answer-line vars r) ∙
+    ap (cut isLf) (append-assoc (joined (answerPieces vars r)) (10 ∷ []) rest) ∙
+    cut-piece isLf (joined (answerPieces vars r)) 10 rest (no-lf-pieces vars r) refl
+
+lines-cons : (v s : ℕ) (ss : List ℕ) → cut isLf (statusLines v (s ∷ ss)) ≡ (decimal v ++ statusWords s) ∷ cut isLf (statusLines (suc v) ss)
+lines-cons v s ss =
+    cut-piece isLf (decimal v ++ statusWords s) 10 (statusLines (suc v) ss)
+    (no-lf-append (decimal v) (statusWords s) (no-lf-decimal v) (no-lf-words s)) refl
+
+-- the line of the variable at an index, where the first one is that of variable v
+status-line : (v : ℕ) (ss : List ℕ) (i : ℕ) → i < length ss
+    → getD (cut isLf (statusLines v ss)) i [] ≡ decimal (v + i) ++ statusWords (statusAt ss i)
+status-line v [] i h = absurd (omega arith)
+status-line v (s ∷ ss) zero h = ap (λ (xss : List (List ℕ)). getD xss 0 []) (lines-cons v s ss) ∙ rw add-zero
+status-line v (s ∷ ss) (suc i) h =
+    ap (λ (xss : List (List ℕ)). getD xss (suc i) []) (lines-cons v s ss) ∙ rw (add-suc, ← suc-add) (status-line (suc v) ss i (omega arith))
+
+-- ---- a table says the answer and the statuses
+
+-- words that differ are of other statuses
+abbrev statusOf : List ℕ → ℕ
+statusOf words =
+    let n = length words + getD words 1 0 in
+    cond (eqb n 116) 0 (cond (eqb n 107) 1 (cond (eqb n 112) 2 3))
+
+statusOf-words : (s : ℕ) → s ≤ 3 → statusOf (statusWords s) ≡ s
+statusOf-words zero h = refl
+statusOf-words (suc zero) h = refl
+statusOf-words (suc (suc zero)) h = refl
+statusOf-words (suc (suc (suc zero))) h = refl
+statusOf-words (suc (suc (suc (suc s)))) h = absurd (omega arith)
+
+words-inj : (s t : ℕ) → s ≤ 3 → t ≤ 3 → statusWords s ≡ statusWords t → s ≡ t
+words-inj s t h k e = sym (statusOf-words s h) ∙ ap statusOf e ∙ statusOf-words t k
+
+-- a number that ends at a space is read off what it stands in front of
+number-front : (n : ℕ) (rest : List ℕ) → getD (cut (λ (b : ℕ). eqb b 32) (decimal n ++ 32 ∷ rest)) 0 [] ≡ decimal n
+number-front n rest =
+    ap (λ (xss : List (List ℕ)). getD xss 0 [])
+    (cut-piece (λ (b : ℕ). eqb b 32) (decimal n) 32 rest
+    (any-of-all isDigit (λ (b : ℕ). eqb b 32) (decimal n) (λ b d. ne-eqb b 32 (omega (arith, digit-above b d))) (decimal-digits n)) refl)
+
+answer-inj : (m n : ℕ) (xs ys : List ℕ) → answerWord ++ decimal m ++ 32 ∷ xs ≡ answerWord ++ decimal n ++ 32 ∷ ys → m ≡ n
+answer-inj m n xs ys e =
+    decimal-inj m n (sym (number-front m xs) ∙ ap (λ (zs : List ℕ). getD (cut (λ (b : ℕ). eqb b 32) zs) 0 []) cancelled ∙ number-front n ys)
+  where
+    cancelled : decimal m ++ 32 ∷ xs ≡ decimal n ++ 32 ∷ ys
+    cancelled =
+        append-cancel-left answerWord (decimal m ++ 32 ∷ xs) (decimal n ++ 32 ∷ ys)
+        (sym (append-assoc answerWord (decimal m) (32 ∷ xs)) ∙ e ∙ append-assoc answerWord (decimal n) (32 ∷ ys))
+
+-- a table that begins with an answer line says its answer and no other
+line-answer : (vars : ℕ) (r : Report) (rest : List ℕ) → SaysAnswer (runNumber (r .answer)) (answerLine vars r ++ rest)
+line-answer vars r rest =
+    record {
+      rest = drop 1 (tail ++ 10 ∷ rest);
+      begins =
+          ap (λ (xs : List ℕ). xs ++ rest) (answer-line vars r) ∙ append-assoc (answerWord ++ (number ++ tail)) (10 ∷ []) rest ∙
+          append-assoc answerWord (number ++ tail) (10 ∷ rest) ∙ ap (λ (xs : List ℕ). answerWord ++ xs) (append-assoc number tail (10 ∷ rest)) ∙
+          sym (append-assoc answerWord number (tail ++ 10 ∷ rest));
+    }
+  where
+    number : List ℕ
+    number = decimal (runNumber (r .answer))
+
+    -- what stands behind the answer's number: ` calls ` and so on
+    tail : List ℕ
+    tail = joined (drop 2 (answerPieces vars r))
+
+answered : (vars : ℕ) (r : Report) (rest : List ℕ) (n : ℕ) → SaysAnswer n (answerLine vars r ++ rest) ↔ (runNumber (r .answer) ≡ n)
+answered vars r rest n =
+    let own = line-answer vars r rest in
+    (λ w. answer-inj (runNumber (r .answer)) n (own .rest) (w .rest) (sym (own .begins) ∙ w .begins), λ e. rw (sym e) own)
+
+-- ---- the table of a run
+
+module _ (k : Task) (limit : 1 ≤ k .limit) where
+  ss : List ℕ
+  ss = run k .progress .statuses
+
+  table : List ℕ
+  table = tableOfEnd (k .vars) (run k)
+
+  -- where the run is not refused, the table begins with the answer line; lines of variables follow unless there is no model
+  by-answer : (a : RunAnswer) → run k .answer ≡ a → table ≡ tableBy a (k .vars) (reportOfRun (run k)) ss
+  unfolding table ss
+  by-answer a q = ap (λ (b : RunAnswer). tableBy b (k .vars) (reportOfRun (run k)) (run k .progress .statuses)) q
+
+  begins : (rest : List ℕ) × (table ≡ answerLine (k .vars) (reportOfRun (run k)) ++ rest)
+  begins = go (run-answer k limit)
+    where
+      go : (run k .answer ≡ RunAnswer.Settled) ⊎ ((run k .answer ≡ RunAnswer.NoModel) ⊎ (run k .answer ≡ RunAnswer.Stopped))
+          → (rest : List ℕ) × (table ≡ answerLine (k .vars) (reportOfRun (run k)) ++ rest)
+      go (inl q) = (statusLines 1 ss, by-answer RunAnswer.Settled q)
+      go (inr (inl q)) = ([], by-answer RunAnswer.NoModel q ∙ sym (append-nil (answerLine (k .vars) (reportOfRun (run k)))))
+      go (inr (inr q)) = (statusLines 1 ss, by-answer RunAnswer.Stopped q)
+
+  says : (n : ℕ) → SaysAnswer n table ↔ (runNumber (run k .answer) ≡ n)
+  says n = let (rest, q) = begins in rw q (answered (k .vars) (reportOfRun (run k)) rest n)
+
+  -- the answers of a run are told apart by their numbers
+  says-settled : (SaysAnswer 0 table → run k .answer ≡ RunAnswer.Settled) × (SaysAnswer 20 table ↔ (run k .answer ≡ RunAnswer.NoModel)) × (run k .answer ≡ RunAnswer.Stopped → SaysAnswer 21 table)
+  says-settled =
+      (λ w. settled (run-answer k limit) (says 0 .0 w), (λ w. no-model (run-answer k limit) (says 20 .0 w), λ q. says 20 .1 (ap runNumber q)), λ q. says 21 .1 (ap runNumber q))
+    where
+      Answers : Type 0
+      Answers = (run k .answer ≡ RunAnswer.Settled) ⊎ ((run k .answer ≡ RunAnswer.NoModel) ⊎ (run k .answer ≡ RunAnswer.Stopped))
+
+      settled : Answers → runNumber (run k .answer) ≡ 0 → run k .answer ≡ RunAnswer.Settled
+      settled (inl q) z = q
+      settled (inr (inl q)) z = absurd (omega (arith, rw q at z))
+      settled (inr (inr q)) z = absurd (omega (arith, rw q at z))
+
+      no-model : Answers → runNumber (run k .answer) ≡ 20 → run k .answer ≡ RunAnswer.NoModel
+      no-model (inl q) z = absurd (omega (arith, rw q at z))
+      no-model (inr (inl q)) z = q
+      no-model (inr (inr q)) z = absurd (omega (arith, rw q at z))
+
+  -- the words of a variable's line say its status
+  line : SaysAnswer 0 table → (i : ℕ) → i < k .vars → (s : ℕ) → s ≤ 3
+      → (lineAt table (suc i) ≡ decimal (suc i) ++ statusWords s) ↔ (statusAt ss i ≡ s)
+  unfolding ss
+  line w i h s small =
+      (λ q. words-inj (statusAt ss i) s (run-statuses k limit .1 i) small (append-cancel-left (decimal (suc i)) _ _ (sym is ∙ q)), λ q. is ∙ ap (λ (t : ℕ). decimal (suc i) ++ statusWords t) q)
+    where
+      is : lineAt table (suc i) ≡ decimal (suc i) ++ statusWords (statusAt ss i)
+      is =
+          ap (λ (t : List ℕ). lineAt t (suc i)) (by-answer RunAnswer.Settled (says-settled .0 w)) ∙
+          ap (λ (xss : List (List ℕ)). getD xss (suc i) []) (first-line (k .vars) (reportOfRun (run k)) (statusLines 1 ss)) ∙
+          status-line 1 ss i (rw (run-statuses k limit .0) h) ∙ ap (λ (v : ℕ). decimal v ++ statusWords (statusAt ss i)) (omega arith)
+
+-- ---- what it says of models, for every text of the grammar
+
+module _ {text : List ℕ} {vars n : ℕ} {es : List ℤ} (d : Dimacs text vars n es) where
+  abbrev k : Task
+  k = tableTask vars es
+
+  some-limit : 1 ≤ 16
+  some-limit = omega arith
+
+  table-is : tableOf text ≡ table k some-limit
+  unfolding table
+  table-is = table-of-run d
+
+  line-of : SaysAnswer 0 (tableOf text) → (i : ℕ) → i < vars → (s : ℕ) → s ≤ 3
+      → (lineAt (tableOf text) (suc i) ≡ decimal (suc i) ++ statusWords s) ↔ (statusAt (run k .progress .statuses) i ≡ s)
+  unfolding ss
+  line-of w i h s small = rw table-is (line k some-limit (rw table-is at w) i h s small)
+
+  settled : SaysAnswer 0 (tableOf text) → run k .answer ≡ RunAnswer.Settled
+  settled w = says-settled k some-limit .0 (rw table-is at w)
+
+  -- the line of a variable says `forced on` exactly if a model exists and all models make it true
+  pub table-forced-on : SaysAnswer 0 (tableOf text) → (i : ℕ) → i < vars
+      → (lineAt (tableOf text) (suc i) ≡ decimal (suc i) ++ (forcedWord ++ onWord)) ↔ Forced vars (clauses es) (pos (suc i))
+  table-forced-on w i h =
+      let says = line-of w i h 2 (omega arith) in
+      let means = settled-forced k some-limit (settled w) (pos (suc i)) (record { some = omega arith; most = omega arith }) in
+      (λ q. means .0 (says .0 q), λ f. says .1 (means .1 f))
+
+  -- `forced off` exactly if a model exists and all models make it false
+  pub table-forced-off : SaysAnswer 0 (tableOf text) → (i : ℕ) → i < vars
+      → (lineAt (tableOf text) (suc i) ≡ decimal (suc i) ++ (forcedWord ++ offWord)) ↔ Forced vars (clauses es) (negsuc i)
+  table-forced-off w i h =
+      let says = line-of w i h 3 (omega arith) in
+      let means = settled-forced k some-limit (settled w) (negsuc i) (record { some = omega arith; most = omega arith }) in
+      (λ q. means .0 (says .0 q), λ f. says .1 (means .1 f))
+
+  -- `free` exactly if two models differ on it
+  pub table-free : SaysAnswer 0 (tableOf text) → (i : ℕ) → i < vars
+      → (lineAt (tableOf text) (suc i) ≡ decimal (suc i) ++ freeWord) ↔ Free vars (clauses es) i
+  table-free w i h =
+      let says = line-of w i h 1 (omega arith) in
+      let means = settled-free k some-limit (settled w) i h in
+      (λ q. means .0 (says .0 q), λ f. says .1 (means .1 f))
+
+  -- unless the first line says 21, it says 20 exactly if there is no model
+  pub table-no-model : (SaysAnswer 21 (tableOf text) → ⊥) → SaysAnswer 20 (tableOf text) ↔ NoModel vars (clauses es)
+  table-no-model ne =
+      let (settles, says-none, stops) = says-settled k some-limit in
+      let means = no-model-exactly k some-limit (λ q. ne (rw table-is (stops q))) in
+      (λ w. means .0 (says-none .0 (rw table-is at w)), λ m. rw table-is (says-none .1 (means .1 m)))
