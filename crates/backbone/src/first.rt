@@ -188,6 +188,8 @@ fn room_for_models(
 }
 
 // The run of a list that no rule refuses: every variable open, no row, and where the clauses start, once for all calls.
+// Rules out: statuses of an older run; rows of one.
+// Required of: run, after 10, 1, 11 and 12.
 pub fn accepted_run(
     entries: &[i32],
     status: &mut [u8],

@@ -5,6 +5,7 @@ mod first;
 
 // A run (docs/RULES.md, "Run" and "What comes back"): for each of the variables 1 to vars, whether it is forced or free, and a row for
 // each call. Every list, every pair of buffers and every limit is answered; what is refused writes nothing.
+// Rules out: an honest first call and the rest marked free; a stopped call logged as none.
 pub fn run(
     entries: &[i32],
     vars: u32,

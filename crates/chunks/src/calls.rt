@@ -111,6 +111,8 @@ pub struct Ended {
 }
 
 // While candidates remain, one call after the other.
+// Rules out: one call too few; going on after a stop.
+// Required of: backbone::first::first_model, behind the first model.
 pub fn run_chunks(
     entries: &[i32],
     starts: &[u16],

@@ -20,6 +20,8 @@ pub struct State {
 }
 
 // After a model: compare, then flip, and the chunk size is back to 1. The model is read here, before the next call can write it.
+// Rules out: a chunk with a model freed whole; a size that is not back to 1.
+// Required of: calls::next_call, by At and Ready; backbone::first::first_model, with every variable open.
 pub fn after_model(
     entries: &[i32],
     starts: &[u16],
@@ -60,6 +62,8 @@ pub fn after_model(
 }
 
 // Twice a chunk size, up to the limit.
+// Rules out: a size over the limit; a size that stays below it.
+// Required of: after_none, which requires it too.
 pub fn doubled(size: u32, limit: u32) -> u32
     requires { ⌜ size ≤ 256 ⌝ }
     ensures { λ r. ⌜ r ≡ doubled size limit ⌝ }
@@ -72,6 +76,8 @@ pub fn doubled(size: u32, limit: u32) -> u32
 }
 
 // After none: the whole chunk is forced, and the chunk size doubles, up to the limit.
+// Rules out: a variable of the chunk left open; one forced to its other value.
+// Required of: calls::next_call, by At and Ready.
 pub fn after_none(
     first: &[u8],
     status: &mut [u8],
@@ -108,6 +114,8 @@ pub fn after_none(
 }
 
 // After a stop: what was shown before it stays.
+// Rules out: a row that says none; a call not counted.
+// Required of: calls::next_call, by At.
 pub fn after_stop(log: &mut [u32], s: State, chunk: u32, spent: u32) -> State
     requires { ⌜ (6 * (s .calls + 1) ≤ length (now log)) × (s .calls ≤ 256) × (s .tries ≤ spent) ⌝ }
     ensures { λ r. ⌜ ((k : Task) (p : Progress) (first status : List ℕ) → Shows (k .vars) p s first status (now (log .entry)) → Shows (k .vars) (afterStop p chunk spent) r first status (now (log .exit))) ⌝ }

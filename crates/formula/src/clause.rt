@@ -4,6 +4,8 @@ ghost use mathlib.Core.Path.{_≡_};
 ghost use Rattle.formula.specs.Starts.{Lookup, clauseAt};
 
 // Clause n, from 1: the part of the entry list from its start to the zero that ends it; after the last one the constraint.
+// Rules out: a clause without its last literal; the constraint for the formula's last clause.
+// Required of: view::clause_of, which requires it too.
 pub fn clause_at<'a>(
     entries: &'a [i32],
     starts: &[u16],

@@ -7,6 +7,7 @@ ghost use Rattle.rules.specs.Meaning.{varOf, negated};
 ghost use Rattle.formula.specs.Literals.{isPositive, HasNegation};
 
 // Whether a literal is positive: the value of its variable that makes it true.
+// Rules out: true for -3; false for 3.
 pub fn sign(l: Lit) -> bool
     ensures { λ r. ⌜ r ≡ isPositive (l .0) ⌝ }
 {
@@ -14,6 +15,8 @@ pub fn sign(l: Lit) -> bool
 }
 
 // The literal of the same variable with the other sign.
+// Rules out: -3 for -3; 0 for 3.
+// Required of: steps::constraint::false_literal, whose variable is at most 256.
 pub fn negated(l: Lit) -> Lit
     requires { ⌜ HasNegation (l .0) ⌝ }
     ensures { λ r. ⌜ r .0 ≡ negated (l .0) ⌝ }
@@ -22,6 +25,7 @@ pub fn negated(l: Lit) -> Lit
 }
 
 // The variable of a literal. -(x + 1) + 1 is computed in place of -x, which the least i32 does not have.
+// Rules out: 3 for -4; 0 for the least i32.
 pub fn var_of(l: Lit) -> Var
     ensures { λ r. ⌜ r .0 ≡ varOf (l .0) ⌝ }
 {

@@ -10,6 +10,8 @@ ghost use Rattle.rules.specs.Closing.{stateOf};
 ghost use Rattle.formula.specs.Clauses.{ClauseUpTo};
 
 // Whether a clause has a true literal.
+// Rules out: true for the empty clause; false where only the last literal is true.
+// Required of: steps::flip::all_true, by clauseAt-up-to.
 pub fn has_true(clause: &[i32], values: &[u8]) -> bool
     requires { ⌜ ClauseUpTo (length (now values)) (now clause) ⌝ }
     ensures { λ r. ⌜ r ≡ hasTrue (now (values .entry)) (now (clause .entry)) ⌝ }
@@ -26,6 +28,8 @@ pub fn has_true(clause: &[i32], values: &[u8]) -> bool
 }
 
 // What a clause is: one pass with running flags. A true literal ends it.
+// Rules out: a unit for "1 -1 0"; undecided for "1 1 0".
+// Required of: search::close::round, by clauseAt-up-to.
 pub fn state_of(clause: &[i32], values: &[u8]) -> ClauseState
     requires { ⌜ ClauseUpTo (length (now values)) (now clause) ⌝ }
     ensures { λ r. ⌜ r ≡ stateOf (now (values .entry)) (now (clause .entry)) ⌝ }

@@ -17,6 +17,8 @@ pub enum LitValue {
 }
 
 // The index of a variable's byte: its number less one.
+// Rules out: 3 for variable 3; 0 for every variable.
+// Required of: whoever has a literal or a variable of 1 to V: is_unset, is_true, set_value, unset_value, can_flip.
 pub fn index_of(v: Var) -> usize
     requires { ⌜ 1 ≤ v .0 ⌝ }
     ensures { λ r. ⌜ r + 1 ≡ v .0 ⌝ }
@@ -25,6 +27,7 @@ pub fn index_of(v: Var) -> usize
 }
 
 // The byte of a value.
+// Rules out: 0 for false; 1 for true.
 pub fn byte_of(value: bool) -> u8
     ensures { λ r. ⌜ r ≡ byteOf value ⌝ }
 {
@@ -32,6 +35,8 @@ pub fn byte_of(value: bool) -> u8
 }
 
 // Whether a literal of one of the variables is unset.
+// Rules out: true for a false literal; false for -1 where variable 1 has no value.
+// Required of: state_of, by the literals of its clause; value_of, which requires it too.
 pub fn is_unset(l: Lit, values: &[u8]) -> bool
     requires { ⌜ LitUpTo (length (now values)) (l .0) ⌝ }
     ensures { λ r. ⌜ r ≡ isUnset (now (values .entry)) (l .0) ⌝ }
@@ -41,6 +46,8 @@ pub fn is_unset(l: Lit, values: &[u8]) -> bool
 }
 
 // Whether it is true.
+// Rules out: true for -1 where variable 1 is true; true for an unset literal.
+// Required of: has_true and state_of, by the literals of their clause; value_of, which requires it too.
 pub fn is_true(l: Lit, values: &[u8]) -> bool
     requires { ⌜ LitUpTo (length (now values)) (l .0) ⌝ }
     ensures { λ r. ⌜ r ≡ isTrue (now (values .entry)) (l .0) ⌝ }
@@ -50,6 +57,8 @@ pub fn is_true(l: Lit, values: &[u8]) -> bool
 }
 
 // Its value.
+// Rules out: False for an unset literal; True for -1 where variable 1 is true.
+// Required of: value_in, which requires it too.
 pub fn value_of(l: Lit, values: &[u8]) -> LitValue
     requires { ⌜ LitUpTo (length (now values)) (l .0) ⌝ }
     ensures { λ r. ⌜ r ≡ litValue (now (values .entry)) (l .0) ⌝ }

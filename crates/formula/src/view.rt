@@ -21,6 +21,7 @@ pub struct View<'a> {
 }
 
 // The view of an entry list.
+// Rules out: a view of a part of the list; another V.
 pub fn view_of<'a>(entries: &'a [i32], vars: usize) -> View<'a>
     ensures { λ r. ⌜ (r .entries ≡ entries .entry) × (r .vars ≡ vars) ⌝ }
 {
@@ -28,6 +29,7 @@ pub fn view_of<'a>(entries: &'a [i32], vars: usize) -> View<'a>
 }
 
 // How many clauses there are.
+// Rules out: the number of entries; one clause more.
 pub fn clause_count<'a>(view: View<'a>) -> usize
     ensures { λ r. ⌜ r ≡ length (clauses (now (view .entry .entries))) ⌝ }
 {
@@ -35,6 +37,8 @@ pub fn clause_count<'a>(view: View<'a>) -> usize
 }
 
 // Clause n, from 1; after the last one the constraint.
+// Rules out: the formula's last clause for the constraint; the first clause for every n.
+// Required of: clause_in, which requires it too.
 pub fn clause_of<'a, 'b>(
     view: View<'a>,
     starts: &'b [u16],
@@ -48,6 +52,8 @@ pub fn clause_of<'a, 'b>(
 }
 
 // The value of a literal of one of the variables.
+// Rules out: False for an unset literal; the value of another variable.
+// Required of: its caller. There is none in these crates.
 pub fn value_in<'a, 'b>(view: View<'a>, values: &'b [u8], l: Lit) -> LitValue
     requires { ⌜ ValueReady (view .vars) (now values) (l .0) ⌝ }
     ensures { λ r. ⌜ r ≡ litValue (now (values .entry)) (l .0) ⌝ }
@@ -56,6 +62,8 @@ pub fn value_in<'a, 'b>(view: View<'a>, values: &'b [u8], l: Lit) -> LitValue
 }
 
 // Clause n of an entry list, from 1; after the last one the constraint.
+// Rules out: the constraint for a clause of the formula; the first clause for every n.
+// Required of: search::close::round and steps::flip::all_true, which count from 1 to the last clause.
 pub fn clause_in<'a, 'b>(
     entries: &'a [i32],
     vars: usize,

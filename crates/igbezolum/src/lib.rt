@@ -62,6 +62,7 @@ fn report_numbers(report: rules::Report) -> IgbReport
 }
 
 // Reads a text into the entries that are lent.
+// Rules out: C for V; the count where the place belongs.
 #[no_mangle]
 pub extern "C" fn igb_read(text: &[u8], entries: &mut [i32]) -> IgbReading
     ensures { λ r. ⌜ ReadsIn (now (text .entry)) (now (entries .entry)) r (now (entries .exit)) ⌝ }
@@ -71,6 +72,7 @@ pub extern "C" fn igb_read(text: &[u8], entries: &mut [i32]) -> IgbReading
 }
 
 // The run over an entry list, into the statuses and the log that are lent.
+// Rules out: the free counted as forced; a run under a budget that was not given.
 #[no_mangle]
 pub extern "C" fn igb_run(
     entries: &[i32],
@@ -87,6 +89,7 @@ pub extern "C" fn igb_run(
 }
 
 // The printed table of a text, put at the start of the buffer that is lent; how many bytes it has.
+// Rules out: one table for every text; a length that is not the table's.
 #[no_mangle]
 pub extern "C" fn igb_table(text: &[u8], out: &mut [u8]) -> usize
     ensures { λ r. ⌜ Prints (now (text .entry)) (now (out .entry)) r (now (out .exit)) ⌝ }

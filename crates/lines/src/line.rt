@@ -11,6 +11,8 @@ use crate::put::put_field;
 use crate::put::put_word;
 
 // The line of a refusal.
+// Rules out: number and place exchanged; a line without LF.
+// Required of: printed::table::put_text, whose room is the whole table's.
 pub fn put_refused(out: &mut [u8], at: usize, number: u32, place: usize) -> usize
     requires { ⌜ Room at (refusedLine number place) (now out) ⌝ }
     ensures { λ r. ⌜ Put at (refusedLine number place) (now (out .entry)) r (now (out .exit)) ⌝ }
@@ -21,6 +23,8 @@ pub fn put_refused(out: &mut [u8], at: usize, number: u32, place: usize) -> usiz
 }
 
 // The first three numbers of the answer line.
+// Rules out: calls and tries exchanged; a number left out.
+// Required of: put_answer, whose room is the whole line's.
 fn put_counts(out: &mut [u8], at: usize, number: u32, calls: u32, tries: u32) -> usize
     requires { ⌜ Room at (countFields number calls tries) (now out) ⌝ }
     ensures { λ r. ⌜ Put at (countFields number calls tries) (now (out .entry)) r (now (out .exit)) ⌝ }
@@ -31,6 +35,8 @@ fn put_counts(out: &mut [u8], at: usize, number: u32, calls: u32, tries: u32) ->
 }
 
 // The last three numbers of the answer line, and its end.
+// Rules out: forced and free exchanged; a line without LF.
+// Required of: put_answer, whose room is the whole line's.
 fn put_ends(out: &mut [u8], at: usize, forced: u32, free: u32, opens: u32) -> usize
     requires { ⌜ Room at (endFields forced free opens) (now out) ⌝ }
     ensures { λ r. ⌜ Put at (endFields forced free opens) (now (out .entry)) r (now (out .exit)) ⌝ }
@@ -42,6 +48,8 @@ fn put_ends(out: &mut [u8], at: usize, forced: u32, free: u32, opens: u32) -> us
 }
 
 // The answer line: the returned numbers, and how many variables are open, which is V less both.
+// Rules out: V less the forced for open; the place beside the number.
+// Required of: printed::table::put_table, whose room is the whole table's.
 pub fn put_answer(out: &mut [u8], at: usize, vars: u32, report: rules::Report) -> usize
     requires { ⌜ Room at (answerLine vars report) (now out) × (report .forced + report .free ≤ vars) ⌝ }
     ensures { λ r. ⌜ Put at (answerLine vars report) (now (out .entry)) r (now (out .exit)) ⌝ }
@@ -54,6 +62,8 @@ pub fn put_answer(out: &mut [u8], at: usize, vars: u32, report: rules::Report) -
 }
 
 // What a status byte says.
+// Rules out: on and off exchanged; open for free.
+// Required of: put_variable, whose room is the whole line's.
 fn put_status(out: &mut [u8], at: usize, status: u8) -> usize
     requires { ⌜ Room at (statusWords status) (now out) ⌝ }
     ensures { λ r. ⌜ Put at (statusWords status) (now (out .entry)) r (now (out .exit)) ⌝ }
@@ -71,6 +81,8 @@ fn put_status(out: &mut [u8], at: usize, status: u8) -> usize
 }
 
 // The line of a variable.
+// Rules out: the number less one; a line without LF.
+// Required of: put_lines, whose room is that of all lines.
 fn put_variable(out: &mut [u8], at: usize, v: usize, status: u8) -> usize
     requires { ⌜ Room at (statusLine v status) (now out) ⌝ }
     ensures { λ r. ⌜ Put at (statusLine v status) (now (out .entry)) r (now (out .exit)) ⌝ }
@@ -81,6 +93,8 @@ fn put_variable(out: &mut [u8], at: usize, v: usize, status: u8) -> usize
 }
 
 // A line for each variable.
+// Rules out: the last variable left out; lines numbered from 0.
+// Required of: printed::table::put_table, whose room is the whole table's.
 pub fn put_lines(out: &mut [u8], at: usize, status: &[u8]) -> usize
     requires { ⌜ Room at (statusLines 1 (now status)) (now out) ⌝ }
     ensures { λ r. ⌜ Put at (statusLines 1 (now (status .entry))) (now (out .entry)) r (now (out .exit)) ⌝ }

@@ -5,6 +5,8 @@ ghost use Rattle.rules.specs.Plain.{decimal};
 ghost use Rattle.lines.specs.Put.{Put, Room};
 
 // One byte.
+// Rules out: the byte one further on; a cursor that stays.
+// Required of: put_decimal and the lines of line.rt, whose room is the whole line's.
 pub fn put_byte(out: &mut [u8], at: usize, byte: u8) -> usize
     requires { ⌜ Room at (byte ∷ []) (now out) ⌝ }
     ensures { λ r. ⌜ Put at (byte ∷ []) (now (out .entry)) r (now (out .exit)) ⌝ }
@@ -14,6 +16,8 @@ pub fn put_byte(out: &mut [u8], at: usize, byte: u8) -> usize
 }
 
 // The bytes of a word.
+// Rules out: the last byte left out; a byte behind the word.
+// Required of: put_field and line::put_status, whose room is the whole line's.
 pub fn put_word(out: &mut [u8], at: usize, word: &[u8]) -> usize
     requires { ⌜ Room at (now word) (now out) ⌝ }
     ensures { λ r. ⌜ Put at (now (word .entry)) (now (out .entry)) r (now (out .exit)) ⌝ }
@@ -27,6 +31,8 @@ pub fn put_word(out: &mut [u8], at: usize, word: &[u8]) -> usize
 }
 
 // The digits of a number, with no zero in front: those of a tenth of it, then the last one.
+// Rules out: a zero in front; a digit too few.
+// Required of: put_field and line::put_variable, whose room is the whole line's.
 pub fn put_decimal(out: &mut [u8], at: usize, n: usize) -> usize
     requires { ⌜ Room at (decimal n) (now out) ⌝ }
     ensures { λ r. ⌜ Put at (decimal n) (now (out .entry)) r (now (out .exit)) ⌝ }
@@ -39,6 +45,8 @@ pub fn put_decimal(out: &mut [u8], at: usize, n: usize) -> usize
 }
 
 // A word and the number behind it.
+// Rules out: the number in front of the word; a blank more between them.
+// Required of: the lines of line.rt, whose room is the whole line's.
 pub fn put_field(out: &mut [u8], at: usize, word: &[u8], n: usize) -> usize
     requires { ⌜ Room at (now word ++ decimal n) (now out) ⌝ }
     ensures { λ r. ⌜ Put at (now (word .entry) ++ decimal n) (now (out .entry)) r (now (out .exit)) ⌝ }

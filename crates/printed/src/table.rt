@@ -13,6 +13,8 @@ use rules::numbers::read_place;
 use rules::numbers::run_number;
 
 // The answer line, and a line for each variable. After 20 there is no model and nothing to say of a variable.
+// Rules out: the lines of the variables after 20; none of them after 21.
+// Required of: put_run, for a run that is not refused.
 fn put_table(out: &mut [u8], vars: u32, report: rules::Report, status: &[u8]) -> usize
     requires { ⌜ TableReady vars report (now status) (now out) ⌝ }
     ensures { λ r. ⌜ Put 0 (tableOfRun vars report (now (status .entry))) (now (out .entry)) r (now (out .exit)) ⌝ }
@@ -27,6 +29,8 @@ fn put_table(out: &mut [u8], vars: u32, report: rules::Report, status: &[u8]) ->
 }
 
 // The run of an entry list with buffers of just the size, budget 1,000,000 and chunk limit 16, and its table.
+// Rules out: the table under another budget; that under another chunk limit.
+// Required of: put_list, with buffers of just the size.
 fn put_run(out: &mut [u8], entries: &[i32], vars: u32, status: &mut [u8], log: &mut [u32]) -> usize
     requires { ⌜ ListReady vars (now entries) (now out) × Sized vars (now status) (now log) ⌝ }
     ensures { λ r. ⌜ Put 0 (tableOfList vars (now (entries .entry))) (now (out .entry)) r (now (out .exit)) ⌝ }
@@ -36,6 +40,8 @@ fn put_run(out: &mut [u8], entries: &[i32], vars: u32, status: &mut [u8], log: &
 }
 
 // The table of an entry list: the buffers are made here, for up to 256 variables.
+// Rules out: the table of another list; a byte behind the table.
+// Required of: put_text, for the list of an accepted text (table-runs).
 fn put_list(out: &mut [u8], entries: &[i32], vars: u32) -> usize
     requires { ⌜ ListReady vars (now entries) (now out) ⌝ }
     ensures { λ r. ⌜ Put 0 (tableOfList vars (now (entries .entry))) (now (out .entry)) r (now (out .exit)) ⌝ }
@@ -53,6 +59,8 @@ fn put_list(out: &mut [u8], entries: &[i32], vars: u32) -> usize
 }
 
 // The table of a text: the line of its refusal, or the table of its entries.
+// Rules out: a table for a refused text; the line of another refusal.
+// Required of: print, by table-bound.
 pub fn put_text(out: &mut [u8], text: &[u8], entries: &mut [i32]) -> usize
     requires { ⌜ Room 0 (tableOf (now text)) (now out) × (length (now entries) ≡ maxEntries) ⌝ }
     ensures { λ r. ⌜ Put 0 (tableOf (now (text .entry))) (now (out .entry)) r (now (out .exit)) ⌝ }

@@ -6,6 +6,7 @@ use rules::ReadAnswer;
 use rules::Reading;
 
 // V, C and the entry count are zero.
+// Rules out: V of the header after a refusal; another answer than the one given.
 pub fn refused(answer: ReadAnswer) -> Reading
     ensures { λ r. ⌜ r ≡ returned (Judged·refused answer) ⌝ }
 {

@@ -99,6 +99,7 @@ fn words_of(line: &[u8]) -> HeaderLine
     )
 }
 
+// Rules out: a header with a blank before the `p`; a fifth word passed over.
 pub fn header_of(line: &[u8]) -> HeaderLine
     ensures { λ r. ⌜ r ≡ headerLine (headerOf (now (line .entry))) ⌝ }
 {

@@ -56,6 +56,7 @@ fn read_text(text: &[u8], entries: &mut [i32]) -> Reading
 }
 
 // Reads a text into the entries that are lent: number and place, V, C and the entry count; the list and then zeros, or zeros alone.
+// Rules out: entries left in the buffer after 3 to 9; `-0` as a closing zero.
 pub fn read(text: &[u8], entries: &mut [i32]) -> Reading
     ensures { λ r. ⌜ Reads (now (text .entry)) (now (entries .entry)) r (now (entries .exit)) ⌝ }
 {

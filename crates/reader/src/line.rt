@@ -11,6 +11,7 @@ pub enum Line {
     At(usize, usize),
 }
 
+// Rules out: true for a `c` behind a blank; false for an empty line.
 pub fn is_skipped(line: &[u8]) -> bool
     ensures { λ r. ⌜ r ≡ skipped (now (line .entry)) ⌝ }
 {
@@ -24,6 +25,7 @@ pub fn is_skipped(line: &[u8]) -> bool
 }
 
 // The first line that is not skipped. A text that ends with LF has an empty line behind it, which is skipped.
+// Rules out: the second line that is not skipped; Missing where there is one.
 pub fn first_line(text: &[u8]) -> Line
     ensures { λ r. ⌜ r ≡ firstLine (linesOf (now (text .entry))) ⌝ }
 {

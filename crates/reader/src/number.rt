@@ -15,6 +15,7 @@ pub enum Number {
     Is(u32),
 }
 
+// Rules out: ten digits as a number; 0 for an empty word.
 pub fn number_of(word: &[u8]) -> Number
     ensures { λ r. ⌜ r ≡ numberOf (now (word .entry)) ⌝ }
 {

@@ -12,18 +12,21 @@ pub enum Wanted {
     NoBlank,
 }
 
+// Rules out: true for CR; false for a tab.
 pub fn is_gap(b: u8) -> bool
     ensures { λ r. ⌜ r ≡ isGap b ⌝ }
 {
     b == b' ' || b == b'\t'
 }
 
+// Rules out: true for NUL; false for CR.
 pub fn is_blank(b: u8) -> bool
     ensures { λ r. ⌜ r ≡ isBlank b ⌝ }
 {
     is_gap(b) || (b == b'\r' || b == b'\n')
 }
 
+// Rules out: true for a tab where NoGap is wanted; false for LF where a blank is.
 pub fn is_wanted(wanted: Wanted, b: u8) -> bool
     ensures { λ r. ⌜ r ≡ isWanted wanted b ⌝ }
 {
@@ -37,6 +40,7 @@ pub fn is_wanted(wanted: Wanted, b: u8) -> bool
 }
 
 // The index of the first byte from `at` on that is wanted, or the length if there is none.
+// Rules out: a later byte that is wanted; the length where one stands before it.
 pub fn find(s: &[u8], wanted: Wanted, at: usize) -> usize
     ensures { λ r. ⌜ r ≡ firstFrom (isWanted wanted) (now (s .entry)) at ⌝ }
 {

@@ -29,6 +29,7 @@ fn signed(minus: bool, n: Number) -> Token
     Token::Is(Entry { minus, number })
 }
 
+// Rules out: `-0` as an entry; `1x` as 1.
 pub fn token_of(word: &[u8]) -> Token
     ensures { λ r. ⌜ r ≡ tokenOf (entryOf (now (word .entry))) ⌝ }
 {

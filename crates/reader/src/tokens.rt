@@ -87,6 +87,8 @@ fn next_step(text: &[u8], h: Header, c: Cursor) -> Step
 }
 
 // Stores the entries that stand from `from` on.
+// Rules out: 6 where 5 is due; an entry left out.
+// Required of: read_header, whose header is within the sizes.
 pub fn read_tokens(text: &[u8], h: Header, from: usize, entries: &mut [i32]) -> Reading
     requires { ⌜ (h .vars ≤ maxVars) × (maxEntries ≤ length (now entries)) ⌝ }
     ensures { λ r. ⌜ Stores (left h (now (text .entry)) (start from)) (now (entries .entry)) r (now (entries .exit)) ⌝ }

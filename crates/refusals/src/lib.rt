@@ -84,6 +84,7 @@ fn refuse_list(entries: &[i32], vars: u32) -> Refusal
 }
 
 // Why a run is refused, if it is.
+// Rules out: 11 before 1; a list of 1,025 clauses accepted.
 pub fn refuse(entries: &[i32], vars: u32, limit: u32, status: &[u8], log: &[u32]) -> Refusal
     ensures { λ r. ⌜ ((budget : ℕ) → r ≡ found (refusalOf (given (now (entries .entry)) vars budget limit (now (status .entry)) (now (log .entry))))) ⌝ }
 {

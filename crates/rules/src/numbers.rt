@@ -3,6 +3,7 @@ ghost use mathlib.Core.Path.{_≡_};
 ghost use Rattle.rules.specs.Numbers.{outcomeNumber, readNumber, readPlace, runNumber, runPlace};
 
 // The log's second column.
+// Rules out: 2 for a stopped call; 0 for a model.
 pub fn outcome_number(outcome: crate::Outcome) -> u32
     ensures { λ r. ⌜ r ≡ outcomeNumber outcome ⌝ }
 {
@@ -14,6 +15,7 @@ pub fn outcome_number(outcome: crate::Outcome) -> u32
 }
 
 // The number of a reading's answer.
+// Rules out: 3 for a header over the sizes; 0 for a refusal.
 pub fn read_number(answer: crate::ReadAnswer) -> u32
     ensures { λ r. ⌜ r ≡ readNumber answer ⌝ }
 {
@@ -32,6 +34,7 @@ pub fn read_number(answer: crate::ReadAnswer) -> u32
 }
 
 // The place of a reading's answer.
+// Rules out: 0 for a malformed token at 10; the length of a text over 32,768 bytes.
 pub fn read_place(answer: crate::ReadAnswer) -> usize
     ensures { λ r. ⌜ r ≡ readPlace answer ⌝ }
 {
@@ -50,6 +53,7 @@ pub fn read_place(answer: crate::ReadAnswer) -> usize
 }
 
 // The number of a run's answer.
+// Rules out: 20 for a stopped run; 11 for a variable above V.
 pub fn run_number(answer: crate::RunAnswer) -> u32
     ensures { λ r. ⌜ r ≡ runNumber answer ⌝ }
 {
@@ -65,6 +69,7 @@ pub fn run_number(answer: crate::RunAnswer) -> u32
 }
 
 // The place of a run's answer.
+// Rules out: 0 for a variable above V at index 2; 1 for a settled run.
 pub fn run_place(answer: crate::RunAnswer) -> usize
     ensures { λ r. ⌜ r ≡ runPlace answer ⌝ }
 {

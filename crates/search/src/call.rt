@@ -38,6 +38,8 @@ fn take_back(values: &mut [u8], saved: &[u8], outcome: Outcome)
 
 // Going on: close; on a clash there is no model here; if all variables are set, this is the model; otherwise take the lowest unset
 // variable and try it false, then, if that finds nothing, true.
+// Rules out: the model with true before false; stopped as none.
+// Required of: backbone::first::first_call and chunks::calls::chunk_call, after 10, 11 and 12; try_value, which requires it too.
 pub fn go_on<'a>(
     entries: &'a [i32],
     starts: &[u16],
@@ -80,6 +82,8 @@ pub fn go_on<'a>(
 }
 
 // Trying a value means setting it and going on. Each value tried is one try; if the budget is spent, the call stops there.
+// Rules out: a try not counted; the variable left set after none.
+// Required of: go_on, for the variable of lowest_unset.
 pub fn try_value<'a>(
     entries: &'a [i32],
     starts: &[u16],

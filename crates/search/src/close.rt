@@ -24,6 +24,8 @@ pub enum Closing {
 }
 
 // One round over clauses 1 to `total`.
+// Rules out: a false clause passed over; a literal set and not counted.
+// Required of: close, which requires it too.
 pub fn round<'a>(
     entries: &'a [i32],
     starts: &[u16],
@@ -55,6 +57,8 @@ pub fn round<'a>(
 }
 
 // Rounds until one sets nothing, or meets a false clause. After a clash the values are somewhere between.
+// Rules out: a clash as closed; a set that is not closed.
+// Required of: go_on, which requires it too.
 pub fn close<'a>(
     entries: &'a [i32],
     starts: &[u16],

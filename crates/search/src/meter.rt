@@ -16,6 +16,7 @@ pub enum Taken {
 }
 
 // The meter behind a try: one more is spent, unless the budget is.
+// Rules out: a try over the budget; the budget counted down.
 pub fn after_try(meter: Meter) -> Meter
     ensures { λ r. ⌜ r ≡ afterTry meter ⌝ }
 {
@@ -32,6 +33,7 @@ pub fn after_try(meter: Meter) -> Meter
 }
 
 // Takes a try from a meter that is lent.
+// Rules out: a copy that is charged; two tries for one.
 pub fn take_a_try(meter: &mut Meter)
     ensures { λ _. ⌜ now (meter .exit) ≡ afterTry (now (meter .entry)) ⌝ }
 {
@@ -40,6 +42,7 @@ pub fn take_a_try(meter: &mut Meter)
 }
 
 // A meter by value is lent for one try, and handed back.
+// Rules out: a meter as it was, with a try left; one spent over the budget.
 pub fn one_more(meter: Meter) -> Meter
     ensures { λ r. ⌜ r ≡ afterTry meter ⌝ }
 {
@@ -49,6 +52,7 @@ pub fn one_more(meter: Meter) -> Meter
 }
 
 // A try, unless the budget is spent.
+// Rules out: a try at the budget; a try that is not counted.
 pub fn take_try(meter: Meter) -> Taken
     ensures { λ r. ⌜ r ≡ takenOf meter ⌝ }
 {

@@ -22,6 +22,8 @@ pub enum Choice {
 }
 
 // Gives a variable a value.
+// Rules out: the byte of the variable behind it; the opposite value.
+// Required of: try_value, for an unset variable; make_true, by its literal.
 pub fn set_value(values: &mut [u8], v: Var, value: bool)
     requires { ⌜ VarUpTo (length (now values)) (v .0) ⌝ }
     ensures { λ _. ⌜ now (values .exit) ≡ set (now (values .entry)) (pred (v .0)) (byteOf value) ⌝ }
@@ -31,6 +33,8 @@ pub fn set_value(values: &mut [u8], v: Var, value: bool)
 }
 
 // Takes a variable's value away.
+// Rules out: the value left; another variable's byte.
+// Required of: try_value, for the variable that it has set.
 pub fn unset_value(values: &mut [u8], v: Var)
     requires { ⌜ VarUpTo (length (now values)) (v .0) ⌝ }
     ensures { λ _. ⌜ now (values .exit) ≡ set (now (values .entry)) (pred (v .0)) 0 ⌝ }
@@ -40,6 +44,8 @@ pub fn unset_value(values: &mut [u8], v: Var)
 }
 
 // Makes a literal true.
+// Rules out: the opposite value; a second variable set.
+// Required of: search::close::round, for the literal of a unit.
 pub fn make_true(values: &mut [u8], l: Lit)
     requires { ⌜ LitUpTo (length (now values)) (l .0) ⌝ }
     ensures { λ _. ⌜ now (values .exit) ≡ assign (now (values .entry)) (l .0) ⌝ }
@@ -48,6 +54,8 @@ pub fn make_true(values: &mut [u8], l: Lit)
 }
 
 // The lowest unset variable, if not all are set.
+// Rules out: the highest; AllSet with one left.
+// Required of: go_on, which requires at most 256 values.
 pub fn lowest_unset(values: &[u8]) -> Choice
     requires { ⌜ length (now values) ≤ maxVars ⌝ }
     ensures { λ r. ⌜ r ≡ choiceOf (lowestUnset (now (values .entry))) ⌝ }
@@ -63,6 +71,8 @@ pub fn lowest_unset(values: &[u8]) -> Choice
 }
 
 // Copies the first n bytes of one slice to another one, whose rest stays.
+// Rules out: the last byte left out; a cleared rest.
+// Required of: go_on and take_back, over at most 256 values; backbone::first::first_model, over buffers of one length.
 pub fn copy_first(from: &[u8], to: &mut [u8], n: usize)
     requires { ⌜ (n ≤ length (now from)) × (n ≤ length (now to)) ⌝ }
     ensures { λ _. ⌜ now (to .exit) ≡ take n (now (from .entry)) ++ drop n (now (to .entry)) ⌝ }

@@ -6,6 +6,8 @@ ghost use Rattle.rules.specs.Run.{differs};
 ghost use Rattle.steps.specs.Filter.{DropsAt, Drops};
 
 // Frees the variable at an index if it is open and passes, and answers 1 if so, else 0.
+// Rules out: a forced variable freed; 1 answered where nothing is dropped.
+// Required of: compare and flip::flip_at, for an index within the statuses.
 pub fn drop_if(status: &mut [u8], i: usize, passes: bool) -> u32
     requires { ⌜ i < length (now status) ⌝ }
     ensures { λ r. ⌜ DropsAt i passes (now (status .entry)) r (now (status .exit)) ⌝ }
@@ -20,6 +22,8 @@ pub fn drop_if(status: &mut [u8], i: usize, passes: bool) -> u32
 }
 
 // Drops each candidate whose variable the model gives another value than the first model, and answers how many.
+// Rules out: a forced variable freed; a candidate dropped where both models agree.
+// Required of: chunks::step::after_model, by StepReady.
 pub fn compare(first: &[u8], model: &[u8], status: &mut [u8]) -> u32
     requires { ⌜ (length (now first) ≡ length (now status)) × (length (now model) ≡ length (now status)) × (length (now status) ≤ 256) ⌝ }
     ensures { λ r. ⌜ Drops (differs (now (first .entry)) (now (model .entry))) (now (status .entry)) r (now (status .exit)) ⌝ }

@@ -16,6 +16,8 @@ pub struct Call {
 }
 
 // Writes the row of a call behind those of the calls before it, which had spent so many tries.
+// Rules out: a row further down; two columns exchanged.
+// Required of: after_model, after_none and after_stop of chunks::step, which require it too; backbone::first::one_row, for row 1.
 pub fn put_row(log: &mut [u32], calls: u32, tries: u32, call: Call)
     requires { ⌜ (6 * (calls + 1) ≤ length (now log)) × (tries ≤ call .spent) × (calls ≤ 256) ⌝ }
     ensures { λ _. ⌜ now (log .exit) ≡ sets (now (log .entry)) (6 * calls) ((calls + 1) ∷ outcomeNumber (call .outcome) ∷ call .chunk ∷ call .«by_compare» ∷ call .«by_flip» ∷ (call .spent - tries) ∷ []) ⌝ }
