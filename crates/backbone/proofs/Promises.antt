@@ -4,6 +4,7 @@
 --   answered, refused-exactly     what is accepted, and each refusal exactly when its rule says
 --   nothing-written   a refused run
 --   settled-forced, settled-free, no-model-exactly     the published definition
+--   settled-none-open settled-same     a settled table has nothing open, and no limit changes it
 --   forced-sound, free-witness    what a stopped run has marked holds too
 --   calls-most, tries-most, counted, logged     calls, tries, counts and the log
 --   rest-stays        what stands behind the table and the rows
@@ -25,7 +26,7 @@ use Rattle.rules.specs.Meaning.{Clause, LitUpTo, clauses}
 use Rattle.rules.specs.Models.{NoModel, Forced, Free, WitnessOf}
 use Rattle.rules.specs.Run.{Task, Row, Ended, statusAt, isForcedTo, run}
 use Rattle.rules.specs.Trace.{Ends, first-none, first-stopped, settled, next-stopped}
-use Rattle.rules.specs.Answer.{Given, logLength, refusalOf, taskOf, reportIf, reportOf, reportOfRun, statusAfter, logAfter, logOfRows, isFree, isForced, Runs}
+use Rattle.rules.specs.Answer.{Given, given, logLength, refusalOf, taskOf, reportIf, reportOf, reportOfRun, statusAfter, logAfter, logOfRows, isFree, isForced, Runs}
 use Rattle.rules.specs.RunRefusals.{Accepted, RunRefuses, out-of-limits, buffer-short, list-long, not-ended, zero-over, variable-above}
 use Rattle.rules.specs.Log.{LogOf}
 use Rattle.rules.proofs.ListLaws.{never}
@@ -112,6 +113,10 @@ module _ {g : Given} {r : Report} {status log : List ℕ} (w : Runs g r status l
     pub settled-free : r .answer ≡ RunAnswer.Settled → (i : ℕ) → i < g .vars → (statusAt (take (g .vars) status) i ≡ 1) ↔ Free (g .vars) (clauses (g .entries)) i
     settled-free e = rw table-is (theorems.settled-free (taskOf g) limit (sym answer-is ∙ e))
 
+    -- settled: no variable is open
+    pub settled-none-open : r .answer ≡ RunAnswer.Settled → (i : ℕ) → statusAt (take (g .vars) status) i ≢ 0
+    settled-none-open e = rw table-is (theorems.settled-none-open (taskOf g) limit (sym answer-is ∙ e))
+
     -- unless the budget stopped the run, "no model" is answered exactly if there is none
     pub no-model-exactly : r .answer ≢ RunAnswer.Stopped → (r .answer ≡ RunAnswer.NoModel) ↔ NoModel (g .vars) (clauses (g .entries))
     no-model-exactly = rw answer-is (theorems.no-model-exactly (taskOf g) limit)
@@ -158,3 +163,17 @@ module _ {g : Given} {r : Report} {status log : List ℕ} (w : Runs g r status l
   -- no second result and buffers meet the contract
   pub one-answer : {r′ : Report} {status′ log′ : List ℕ} → Runs g r′ status′ log′ → (r ≡ r′) × (status ≡ status′) × (log ≡ log′)
   one-answer v = theorems.runs-unique w v
+
+-- budget and chunk limit never change a settled status
+pub settled-same : {es : List ℤ} {vars : ℕ} (budget limit budget′ limit′ : ℕ) {st lg st′ lg′ status log status′ log′ : List ℕ} {r r′ : Report}
+    → Runs (given es vars budget limit st lg) r status log
+    → Runs (given es vars budget′ limit′ st′ lg′) r′ status′ log′
+    → Accepted (given es vars budget limit st lg) → Accepted (given es vars budget′ limit′ st′ lg′)
+    → r .answer ≡ RunAnswer.Settled → r′ .answer ≡ RunAnswer.Settled → take vars status ≡ take vars status′
+settled-same {es} {vars} budget limit budget′ limit′ {st} {lg} w v h i e f =
+    table-is w h ∙
+    theorems.settled-same (taskOf (given es vars budget limit st lg)) (limit-some h) budget′ limit′ (limit-some i) (sym (answer-is w h) ∙ e) (sym (answer-is v i) ∙ f) ∙
+    sym (table-is v i)
+  where
+    limit-some : {g : Given} → Accepted g → 1 ≤ g .limit
+    limit-some h = h .listed .lent .in-limits .limit-some

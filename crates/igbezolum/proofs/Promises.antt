@@ -7,8 +7,8 @@
 --                                    what the statuses and the numbers of a run say of models
 -- Assumes nothing.
 use mathlib.Core.Path.{_≡_, refl, sym, _∙_, ap}
-use mathlib.Core.Bool.{cond}
-use mathlib.Core.Logic.{_≢_, _↔_}
+use mathlib.Core.Bool.{true, false, cond}
+use mathlib.Core.Logic.{_≢_, _⊎_, inl, inr, _↔_}
 use mathlib.Core.List.{List, _++_, append-assoc}
 use Prim.Native.Nat.{ℕ, _+_, _-_, _≤_, _<_}
 use lib.Dec.{eqb}
@@ -25,9 +25,12 @@ use Rattle.rules.specs.Reading.{readingOf, Reads}
 use Rattle.rules.specs.Grammar.{Dimacs}
 use Rattle.rules.specs.Meaning.{LitUpTo, clauses}
 use Rattle.rules.specs.Models.{NoModel, Forced, Free, WitnessOf}
-use Rattle.rules.specs.Run.{statusAt, isForcedTo}
-use Rattle.rules.specs.Answer.{Given, given, taskOf, reportOf, Runs}
-use Rattle.rules.specs.RunRefusals.{Lent, Accepted}
+use Rattle.rules.specs.Lists.{count}
+use Rattle.rules.specs.Run.{Row, statusAt, isForcedTo}
+use Rattle.rules.specs.Answer.{Given, given, logLength, taskOf, reportOf, logOfRows, isFree, isForced, Runs}
+use Rattle.rules.specs.RunRefusals.{Lent, Accepted, RunRefuses}
+use Rattle.rules.specs.Log.{LogOf}
+use Rattle.rules.proofs.ListLaws.{both, never, not-true}
 use Rattle.rules.proofs.ReadingTheorems.{read-accepts, read-accepted}
 use Rattle.rules.proofs.TextTheorems.{dimacs-runs}
 use Rattle.backbone.proofs.Promises as run
@@ -158,44 +161,133 @@ module _ {text : List ℕ} {before after : List ℤ} {n : IgbReading} (w : Reads
       let c = read-card in
       dimacs-runs (given (take (n .count) after) (n .vars) budget limit status log) (rw (← c .stands) at (c .derived)) l
 
--- ---- what a run says of models
+-- ---- what a run answers, and what it writes
+
+-- the answers of a run that is not refused
+abbrev pub Answered : IgbReport → Type 0
+Answered n = (n .answer ≡ 0) ⊎ ((n .answer ≡ 20) ⊎ (n .answer ≡ 21))
+
+answered-number : (a : RunAnswer) → run.isAnswered a ≡ true → (runNumber a ≡ 0) ⊎ ((runNumber a ≡ 20) ⊎ (runNumber a ≡ 21))
+answered-number RunAnswer.Settled e = inl refl
+answered-number RunAnswer.NoModel e = inr (inl refl)
+answered-number RunAnswer.Stopped e = inr (inr refl)
+answered-number RunAnswer.BufferShort e = absurd (never e refl)
+answered-number RunAnswer.OutOfLimits e = absurd (never e refl)
+answered-number (RunAnswer.BadList at) e = absurd (never e refl)
+answered-number (RunAnswer.VariableAbove at) e = absurd (never e refl)
 
 module _ {g : Given} {n : IgbReport} {status log : List ℕ} (w : RunsIn g n status log) where
+  below : Runs g (reportFrom n) status log
+  below = runs-back w
+
   answer-of : (k : ℕ) → n .answer ≡ k → reportFrom n .answer ≡ runAnswer k (n .place)
   answer-of k e = ap (λ (m : ℕ). runAnswer m (n .place)) e
 
+  number-is : n .answer ≡ runNumber (reportFrom n .answer)
+  number-is = ap (λ (m : IgbReport). m .answer) (w .result-is) ∙ ap (λ (r : Report). runNumber (r .answer)) (sym (below .result-is))
+
+  place-is : n .place ≡ runPlace (reportFrom n .answer)
+  place-is = ap (λ (m : IgbReport). m .place) (w .result-is) ∙ ap (λ (r : Report). runPlace (r .answer)) (sym (below .result-is))
+
+  answered-so : Answered n → run.isAnswered (reportFrom n .answer) ≡ true
+  answered-so (inl e) = ap run.isAnswered (answer-of 0 e)
+  answered-so (inr (inl e)) = ap run.isAnswered (answer-of 20 e)
+  answered-so (inr (inr e)) = ap run.isAnswered (answer-of 21 e)
+
+  -- 0, 20 or 21 is answered exactly if no rule refuses
+  pub answered : Answered n ↔ Accepted g
+  answered =
+      (λ a. run.answered below .0 (answered-so a), λ h. rw number-is (answered-number (reportFrom n .answer) (run.answered below .1 h)))
+
+  -- each refusal number and place exactly when its rule says so
+  pub refused-exactly : (a : RunAnswer) → run.isAnswered a ≡ false → ((n .answer ≡ runNumber a) × (n .place ≡ runPlace a)) ↔ RunRefuses g a
+  refused-exactly a f =
+      let exactly = run.refused-exactly below a f in
+      (λ e. exactly .0 (cc (e .0, e .1) ∙ runAnswer-numbers a), λ h. let q = exactly .1 h in (number-is ∙ ap runNumber q, place-is ∙ ap runPlace q))
+
+  -- a refused run returns zero counts and writes nothing
+  pub nothing-written : (Answered n → ⊥) → (n .calls ≡ 0) × (n .tries ≡ 0) × (n .forced ≡ 0) × (n .free ≡ 0) × (status ≡ g .status) × (log ≡ g .log)
+  nothing-written ne =
+      let f : run.isAnswered (reportFrom n .answer) ≡ false = not-true _ (λ t. ne (answered .1 (run.answered below .0 t))) in
+      let (r, s, l) = run.nothing-written below (reportFrom n .answer) (run.refused-exactly below (reportFrom n .answer) f .0 refl) in
+      (ap (λ (q : Report). q .calls) r, ap (λ (q : Report). q .tries) r, ap (λ (q : Report). q .forced) r, ap (λ (q : Report). q .free) r, s, l)
+
+  -- what stands behind the table and the rows stays, whatever is answered
+  pub rest-stays : (drop (g .vars) status ≡ drop (g .vars) (g .status)) × (drop (logLength (g .vars)) log ≡ drop (logLength (g .vars)) (g .log))
+  rest-stays = go (both (run.isAnswered (reportFrom n .answer)))
+    where
+      go : (run.isAnswered (reportFrom n .answer) ≡ true) ⊎ (run.isAnswered (reportFrom n .answer) ≡ false)
+          → (drop (g .vars) status ≡ drop (g .vars) (g .status)) × (drop (logLength (g .vars)) log ≡ drop (logLength (g .vars)) (g .log))
+      go (inl t) = run.rest-stays below (run.answered below .0 t)
+      go (inr f) =
+          let (r, s, l) = run.nothing-written below (reportFrom n .answer) (run.refused-exactly below (reportFrom n .answer) f .0 refl) in
+          (ap (drop (g .vars)) s, ap (drop (logLength (g .vars))) l)
+
+  -- ---- a settled run
+
   settled-accepted : n .answer ≡ 0 → Accepted g
-  settled-accepted e = run.answered (runs-back w) .0 (ap run.isAnswered (answer-of 0 e))
+  settled-accepted e = answered .0 (inl e)
 
   -- after 0 a literal is marked forced exactly if a model exists and all models contain it
-  pub settled-forced : n .answer ≡ 0 → (l : ℤ) → LitUpTo (g .vars) l → isForcedTo (take (g .vars) status) l ↔ Forced (g .vars) (clauses (g .entries)) l
-  settled-forced e = run.settled-forced (runs-back w) (settled-accepted e) (answer-of 0 e)
+  pub settled-forced : n .answer ≡ 0 → (l : ℤ) → LitUpTo (g .vars) l
+      → isForcedTo (take (g .vars) status) l ↔ Forced (g .vars) (clauses (g .entries)) l
+  settled-forced e = run.settled-forced below (settled-accepted e) (answer-of 0 e)
 
-  -- and a variable is marked free exactly if two models differ on it
+  -- a variable is marked free exactly if two models differ on it
   pub settled-free : n .answer ≡ 0 → (i : ℕ) → i < g .vars → (statusAt (take (g .vars) status) i ≡ 1) ↔ Free (g .vars) (clauses (g .entries)) i
-  settled-free e = run.settled-free (runs-back w) (settled-accepted e) (answer-of 0 e)
+  settled-free e = run.settled-free below (settled-accepted e) (answer-of 0 e)
 
-  module _ (h : Accepted g) where
-    number-is : n .answer ≡ runNumber (reportFrom n .answer)
-    number-is = ap (λ (m : IgbReport). m .answer) (w .result-is) ∙ ap (λ (r : Report). runNumber (r .answer)) (sym (runs-back w .result-is))
+  -- and none is open
+  pub settled-none-open : n .answer ≡ 0 → (i : ℕ) → statusAt (take (g .vars) status) i ≢ 0
+  settled-none-open e = run.settled-none-open below (settled-accepted e) (answer-of 0 e)
 
-    -- unless the budget stopped the run, 20 is answered exactly if there is no model
-    pub no-model-exactly : n .answer ≢ 21 → (n .answer ≡ 20) ↔ NoModel (g .vars) (clauses (g .entries))
-    no-model-exactly ne =
-        let both = run.no-model-exactly (runs-back w) h (λ e. ne (number-is ∙ ap runNumber e)) in
-        (λ e. both .0 (answer-of 20 e), λ m. number-is ∙ ap runNumber (both .1 m))
+  -- ---- no model
 
-    -- however it ended: a literal marked forced is in all models, and there is one
+  -- unless the budget stopped the run, 20 is answered exactly if there is no model
+  pub no-model-exactly : Answered n → n .answer ≢ 21 → (n .answer ≡ 20) ↔ NoModel (g .vars) (clauses (g .entries))
+  no-model-exactly a ne =
+      let exactly = run.no-model-exactly below (answered .0 a) (λ e. ne (number-is ∙ ap runNumber e)) in
+      (λ e. exactly .0 (answer-of 20 e), λ m. number-is ∙ ap runNumber (exactly .1 m))
+
+  -- after 20 all variables are open, and the log has one row
+  pub no-model-table : n .answer ≡ 20 → (take (g .vars) status ≡ replicate (g .vars) 0) × (n .calls ≡ 1)
+  no-model-table e = run.no-model-table below (answered .0 (inr (inl e))) (answer-of 20 e)
+
+  -- ---- however it was answered, with 0, 20 or 21
+
+  module _ (a : Answered n) where
+    -- a literal marked forced is in all models, and there is one
     pub forced-sound : (l : ℤ) → LitUpTo (g .vars) l → isForcedTo (take (g .vars) status) l → Forced (g .vars) (clauses (g .entries)) l
-    forced-sound = run.forced-sound (runs-back w) h
+    forced-sound = run.forced-sound below (answered .0 a)
 
-    -- and a variable marked free has its witness against the run's first model
-    pub free-witness : (i : ℕ) → i < g .vars → statusAt (take (g .vars) status) i ≡ 1 → WitnessOf (g .vars) (clauses (g .entries)) (Rattle.rules.specs.Run.run (taskOf g) .progress .models) i
-    free-witness = run.free-witness (runs-back w) h
+    -- a variable marked free has its witness against the run's first model
+    pub free-witness : (i : ℕ) → i < g .vars → statusAt (take (g .vars) status) i ≡ 1
+        → WitnessOf (g .vars) (clauses (g .entries)) (Rattle.rules.specs.Run.run (taskOf g) .progress .models) i
+    free-witness = run.free-witness below (answered .0 a)
 
     pub calls-most : n .calls ≤ g .vars + 1
-    calls-most = run.calls-most (runs-back w) h
+    calls-most = run.calls-most below (answered .0 a)
 
     -- all of the budget is spent where the run was stopped
     pub tries-most : (n .tries ≤ g .budget) × (n .answer ≡ 21 → n .tries ≡ g .budget)
-    tries-most = let (m, f) = run.tries-most (runs-back w) h in (m, λ e. f (answer-of 21 e))
+    tries-most = let (m, f) = run.tries-most below (answered .0 a) in (m, λ e. f (answer-of 21 e))
+
+    -- the numbers forced and free are those of the table
+    pub counted : (n .forced ≡ count isForced (take (g .vars) status)) × (n .free ≡ count isFree (take (g .vars) status))
+    counted = run.counted below (answered .0 a)
+
+    -- the log has a row for each call begun, and zeros behind; its rows are numbered from 1, each call after the first that finds a
+    -- model frees at least one variable, each that finds none forces at least one, and the columns add up to what is returned
+    pub logged : (rows : List Row)
+        × (take (logLength (g .vars)) log ≡ logOfRows (g .vars) rows)
+        × (length rows ≡ n .calls)
+        × LogOf rows (n .free) (n .forced) (n .tries)
+    logged = run.logged below (answered .0 a)
+
+-- budget and chunk limit never change a settled status
+pub settled-same : {es : List ℤ} {vars : ℕ} (budget limit budget′ limit′ : ℕ) {st lg st′ lg′ status log status′ log′ : List ℕ} {n n′ : IgbReport}
+    → RunsIn (given es vars budget limit st lg) n status log
+    → RunsIn (given es vars budget′ limit′ st′ lg′) n′ status′ log′
+    → n .answer ≡ 0 → n′ .answer ≡ 0 → take vars status ≡ take vars status′
+settled-same budget limit budget′ limit′ w v e f =
+    run.settled-same budget limit budget′ limit′ (runs-back w) (runs-back v) (settled-accepted w e) (settled-accepted v f) (answer-of w 0 e) (answer-of v 0 f)
