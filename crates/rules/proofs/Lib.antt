@@ -1,3 +1,4 @@
+pub mod Quoted
 pub mod ListLaws
 pub mod CutLaws
 pub mod TokenLaws
