@@ -34,4 +34,5 @@ pub mod PrintedLaws
 pub mod PlaceLaws
 pub mod TableLaws
 pub mod Starred
+pub mod AnswerCases
 pub mod Theorems
