@@ -1,5 +1,6 @@
 -- Computed cases of the form of proofs/Starred, one table and one theorem: each shows a sentence of docs/RULES.md, "Run" or "What comes
--- back", that no starred case shows.
+-- back", that no starred case shows. The check takes files by their names, so a definition that gives a case another answer is refused
+-- here or in Starred before any law.
 --
 --   further-cases     the definitions give what each line says
 --
@@ -15,7 +16,7 @@ use Rattle.rules.specs.Run.{chunkCall, chunksIn, chunks, firstCall, run}
 use Rattle.rules.specs.Answer.{refusalOf, reportOf, statusAfter, logAfter}
 use Rattle.rules.proofs.Starred.{Case, line, neg, clause, unit, returns, row, passes}
 
-abbrev further : List Case
+abbrev pub further : List Case
 further =
     -- a model shows free what it gives another value, and not the chunk: 3 and not 2 of the chunk 2 and -3, and 4 outside it;
     -- `1 0 2 0 3 4 0 -3 -4 0`

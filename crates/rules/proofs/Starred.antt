@@ -80,7 +80,7 @@ passes c =
 
 -- ---- the starred cases: budget 100 and chunk limit 2 unless said
 
-abbrev cases : List Case
+abbrev pub cases : List Case
 cases =
     -- 0, none
     line 0 100 2 [] (returns 0 1 0 0 0) [] (row 1 1 0 0 0 0 ∷ []) ∷
