@@ -1,5 +1,7 @@
 pub mod Quoted
 pub mod ListLaws
+pub mod DecimalLaws
+pub mod ByteLaws
 pub mod CutLaws
 pub mod TokenLaws
 pub mod LineLaws
@@ -9,7 +11,6 @@ pub mod VerdictLaws
 pub mod GrammarLaws
 pub mod RefusalLaws
 pub mod ReadingTheorems
-pub mod DecimalLaws
 pub mod PlainLaws
 pub mod MeaningLaws
 pub mod StateLaws
