@@ -36,4 +36,5 @@ pub mod PlaceLaws
 pub mod TableLaws
 pub mod Starred
 pub mod AnswerCases
+pub mod EdgeCases
 pub mod Theorems

@@ -14,6 +14,7 @@ use mathlib.Core.Logic.{_≢_, _↔_, _⊎_, ⊎-elim}
 use mathlib.Core.Bool.{Bool, true, _&&_}
 use mathlib.Core.List.{List, [], _∷_, _++_, append-assoc}
 use Prim.Native.Nat.{ℕ, _-_, _≤_}
+use Prim.Native.String.{String}
 use native.Mathlib.Omega.{arith}
 use lib.Dec.{eqb}
 use lib.IntN.{ℤ, pos}
@@ -27,6 +28,7 @@ use Rattle.rules.specs.Text.{Sizes, linesOf, tokensFrom, numeral, header
 use Rattle.rules.specs.Reading.{Judged, accepted, refused, judge, judgeTokens, judgeLines, returned, readingOf, filled, written, entriesAfter, Reads}
 use Rattle.rules.specs.Grammar.{Dimacs}
 use Rattle.rules.specs.Refusals.{Begun, Refuses, buffer-short, text-long, no-header, bad-header, header-large, bad-token, token-after-last, variable-above, entry-over, ends-early}
+use Rattle.rules.proofs.Quoted.{quoted}
 use Rattle.rules.proofs.VerdictLaws.{Verdict, refuses, accepts, verdict-of-judge}
 use Rattle.rules.proofs.GrammarLaws.{dimacs-of-whole, accepted-sound, accepted-complete}
 use Rattle.rules.proofs.RefusalLaws.{refusal-sound, refusal-complete, accepted-never-answer}
@@ -214,25 +216,21 @@ accepted-fills text before {vars} {clauses} {es} h d =
 -- ---- the four small texts, each after `p cnf 1 1` and LF
 
 pub record SmallText : Type 0 where
-  pub behind : List ℕ
+  pub behind : String
   pub number : ℕ
   pub place : ℕ
 
 unfoldable pub smallTexts : List SmallText
 smallTexts =
-    -- `2 0`
-    record { behind = 50 ∷ 32 ∷ 48 ∷ []; number = 7; place = 10 } ∷
-    -- `-0 0`
-    record { behind = 45 ∷ 48 ∷ 32 ∷ 48 ∷ []; number = 5; place = 10 } ∷
-    -- `1` and LF
-    record { behind = 49 ∷ 10 ∷ []; number = 9; place = 12 } ∷
-    -- `1 0 1 0`
-    record { behind = 49 ∷ 32 ∷ 48 ∷ 32 ∷ 49 ∷ 32 ∷ 48 ∷ []; number = 6; place = 14 } ∷
+    record { behind = "2 0"; number = 7; place = 10 } ∷
+    record { behind = "-0 0"; number = 5; place = 10 } ∷
+    record { behind = "1\n"; number = 9; place = 12 } ∷
+    record { behind = "1 0 1 0"; number = 6; place = 14 } ∷
     []
 
 -- the answer to such a text, with a buffer of 4,096 entries
-unfoldable pub answerTo : List ℕ → ReadAnswer
-answerTo behind = readingOf (112 ∷ 32 ∷ 99 ∷ 110 ∷ 102 ∷ 32 ∷ 49 ∷ 32 ∷ 49 ∷ 10 ∷ behind) (replicate maxEntries (pos 0)) .answer
+unfoldable pub answerTo : String → ReadAnswer
+answerTo behind = readingOf (quoted "p cnf 1 1\n" ++ quoted behind) (replicate 4096 (pos 0)) .answer
 
 unfoldable pub passes : SmallText → Bool
 passes t = eqb (readNumber (answerTo (t .behind))) (t .number) && eqb (readPlace (answerTo (t .behind))) (t .place)
