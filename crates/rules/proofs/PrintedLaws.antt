@@ -7,36 +7,30 @@
 --   table-runs        the run of the table program is never refused
 --
 -- Assumes nothing.
-use mathlib.Core.Path.{_≡_, refl, sym, _∙_, ap}
-use mathlib.Core.Bool.{Bool, true, false}
+use mathlib.Core.Path.{_≡_, refl, sym, _∙_}
+use mathlib.Core.Bool.{Bool, true}
 use mathlib.Core.List.{List, [], _∷_, _++_}
-use mathlib.Core.Option.{none}
-use Prim.Native.Nat.{ℕ, zero, suc, _+_, _-_, _*_, _≤_, _<_}
+use Prim.Native.Nat.{ℕ}
 use native.Mathlib.Omega.{arith}
 use Prim.Native.String.{String}
 use lib.IntN.{ℤ}
 use lib.Dec.{leb}
-use lib.ListN.{length, drop, replicate, length-append, length-replicate}
-use Rattle.rules.specs.declared.ReadAnswer.{ReadAnswer}
+use lib.ListN.{length, length-replicate}
 use Rattle.rules.specs.declared.RunAnswer.{RunAnswer}
-use Rattle.rules.specs.declared.Report.{Report}
 use Rattle.rules.specs.Lists.{all, eqs}
-use Rattle.rules.specs.Numbers.{maxText, maxVars, maxEntries, readNumber, readPlace, runNumber, runPlace}
 use Rattle.rules.specs.Text.{Sizes, linesOf, tokensFrom, numeral, headerOf, entryOf}
-use Rattle.rules.specs.Reading.{Judged, accepted, refused, judge, judgeTokens, judgeLines}
+use Rattle.rules.specs.Reading.{accepted, refused, judge, judgeTokens, judgeLines}
 use Rattle.rules.specs.Grammar.{Dimacs}
 use Rattle.rules.specs.Closing.{stateOf, closeIn, closing}
 use Rattle.rules.specs.Search.{goOn, callOn}
 use Rattle.rules.specs.Plain.{decimal, decimalIn}
 use Rattle.rules.specs.Run.{chunkCall, chunksIn, chunks, firstCall, run}
-use Rattle.rules.specs.Answer.{Given, logLength, refusalOf, reportOf, statusAfter}
+use Rattle.rules.specs.Answer.{logLength, refusalOf, reportOf, statusAfter}
 use Rattle.rules.specs.RunRefusals.{Accepted}
-use Rattle.rules.specs.Printed.{answerWord, refusedLine, answerLine, statusWords, statusLines, tableBy, tableOfRun, tableGiven, tableOfJudged, tableOf, maxTable, countIfRoom, bytesIfRoom, Prints}
+use Rattle.rules.specs.Printed.{tableOfRun, tableGiven, tableOf, maxTable, countIfRoom, bytesIfRoom, Prints}
 use Rattle.rules.proofs.Quoted.{quoted}
 use Rattle.rules.proofs.GrammarLaws.{accepted-sound}
-use Rattle.rules.proofs.DecimalLaws.{decimal-most}
 use Rattle.rules.proofs.TextTheorems.{dimacs-runs}
-use Rattle.rules.proofs.RefusedRuns.{run-accepted}
 
 -- ---- the example of docs/RULES.md, and a table of each other kind, computed
 
