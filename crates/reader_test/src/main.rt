@@ -38,6 +38,7 @@ fn before_p_cases() {
     show(b"blank_before_c", b" c x\np cnf 1 1\n1 0\n");
     show(b"blank_before_p", b" p cnf 1 1\n1 0");
     show(b"blank_before_p_later", b"c\n p cnf 1 1\n1 0");
+    show(b"form_feed_line", b"\x0c\np cnf 1 1\n1 0");
 }
 
 // The header line.
@@ -68,6 +69,13 @@ fn header_word_cases() {
     show(b"capital", b"P cnf 1 1\n1 0");
     show(b"cnf_long", b"p cnff 1 1\n1 0");
     show(b"nul_in_header", b"p cnf 1\x00 1\n1 0");
+}
+
+// Form feed and vertical tab are no blanks.
+fn header_byte_cases() {
+    show(b"form_feed_in_header", b"p\x0ccnf 1 1\n1 0");
+    show(b"vertical_tab_in_header", b"p cnf 1\x0b1\n1 0");
+    show(b"form_feed_behind_header", b"p cnf 1 1\x0c\n1 0");
 }
 
 fn header_size_cases() {
@@ -104,6 +112,13 @@ fn bad_byte_cases() {
     show(b"above_127", b"p cnf 1 1\n\x80 0");
     show(b"comment_behind", b"p cnf 1 1\nc x\n1 0");
     show(b"percent", b"p cnf 1 1\n1 0\n%\n0\n");
+}
+
+fn no_blank_cases() {
+    show(b"form_feed", b"p cnf 1 1\n1\x0c0");
+    show(b"vertical_tab", b"p cnf 1 1\n1\x0b0");
+    show(b"form_feed_second", b"p cnf 1 1\n1 \x0c 0");
+    show(b"vertical_tab_last", b"p cnf 1 1\n1 0 \x0b");
 }
 
 // Tokens that are refused with 6 and 7, and the order 5, 6, 7.
@@ -241,11 +256,26 @@ fn buffer_cases() {
     show_buffer(b"buffer_4097", b"p cnf 1 1\n-1 0", &mut more);
 }
 
-fn refusal_cases() {
-    let mut header = [7i32; 4097];
-    show_buffer(b"cleared_after_3", b"", &mut header);
-    let mut token = [7i32; 4097];
-    show_buffer(b"cleared_after_5", b"p cnf 1 2\n1 0 -1 x", &mut token);
+fn show_cleared(name: &[u8], text: &[u8]) {
+    let mut entries = [7i32; 4097];
+    show_buffer(name, text, &mut entries);
+}
+
+// Each refusal from 3 to 9.
+fn cleared_cases() {
+    show_cleared(b"cleared_after_3", b"");
+    show_cleared(b"cleared_after_4", b"p cnf 257 1\n1 0");
+    show_cleared(b"cleared_after_5", b"p cnf 1 2\n1 0 -1 x");
+    show_cleared(b"cleared_after_6", b"p cnf 1 1\n-1 0 1");
+    show_cleared(b"cleared_after_7", b"p cnf 1 1\n1 -2 0");
+    let mut text = [0u8; 8203];
+    alternate(&mut text, b'1');
+    bytes::copy(b"p cnf 1 1\n", &mut text);
+    show_cleared(b"cleared_after_8", &text);
+    show_cleared(b"cleared_after_9", b"p cnf 1 2\n1 0 -1");
+}
+
+fn kept_cases() {
     let long = [b' '; 32769];
     let mut right = [7i32; 4097];
     show_buffer(b"kept_after_2", &long, &mut right);
@@ -259,10 +289,12 @@ fn main() {
     header_cases();
     header_number_cases();
     header_word_cases();
+    header_byte_cases();
     header_size_cases();
     minus_cases();
     digit_cases();
     bad_byte_cases();
+    no_blank_cases();
     after_last_cases();
     above_cases();
     end_cases();
@@ -270,5 +302,6 @@ fn main() {
     entry_cases();
     size_cases();
     buffer_cases();
-    refusal_cases();
+    cleared_cases();
+    kept_cases();
 }

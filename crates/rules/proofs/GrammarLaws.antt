@@ -11,7 +11,7 @@
 -- Assumes nothing.
 use mathlib.Core.Path.{_≡_, refl, sym, _∙_, ap, subst, subst₂}
 use mathlib.Core.Bool.{Bool, true, false}
-use mathlib.Core.List.{List, [], _∷_, _++_, append-nil}
+use mathlib.Core.List.{List, [], _∷_, _++_, append-nil, List·Memᴰ·not-nil}
 use Prim.Native.Nat.{ℕ, suc, _+_, _≤_, _<_}
 use native.Mathlib.Omega.{arith}
 use lib.IntN.{ℤ, pos}
@@ -24,6 +24,7 @@ use Rattle.rules.specs.Reading.{accepted, isZero, behind, judge}
 use Rattle.rules.specs.Grammar.{Before, Header, Ended, at-end, at-blank, Body, blanks, token, Text, header-only, with-body, ClausesOf, no-clause, clause, Dimacs}
 use Rattle.rules.specs.Refusals.{FirstLine, Say, nothing, one-more}
 use Rattle.rules.proofs.ListLaws.{count-append, eqz-sound}
+use Rattle.rules.proofs.ByteLaws.{blank-sound, blank-complete, blanks-sound, blanks-complete, noZero-sound, noZero-complete}
 use Rattle.rules.proofs.CutLaws.{or-left, or-right, nil-not-append, Stops, Words, words-exists, words-unique}
 use Rattle.rules.proofs.TokenLaws.{word-of-token}
 use Rattle.rules.proofs.HeaderLaws.{header-not-skipped, header-no-lf}
@@ -35,7 +36,7 @@ use Rattle.rules.proofs.VerdictLaws.{tokensOf, Whole, Verdict, accepts,
 
 clausesOf-cons : {m : ℕ} {l : ℤ} {es : List ℤ} → isZero l ≡ false → 1 ≤ m → ClausesOf m es → ClausesOf m (l ∷ es)
 clausesOf-cons e h no-clause = absurd (omega arith)
-clausesOf-cons {l} e h (clause cl k c) = clause (l ∷ cl) (rw e k) c
+clausesOf-cons {l} e h (clause cl k c) = clause (l ∷ cl) (noZero-sound (l ∷ cl) (rw e (noZero-complete cl k))) c
 
 pub clausesOf-of-passes : {s : Sizes} {k n : ℕ} {ts : List Piece} {es : List ℤ} → Passes s k n ts es
     → k + count isZero es ≡ s .clauses → ClausesOf (count isZero es) es
@@ -45,7 +46,7 @@ clausesOf-of-passes {s} {k} (pass {l} {es} w f p) h = go (isZero l) refl h (clau
     go : (t : Bool) → isZero l ≡ t → k + countIf t (count isZero es) ≡ s .clauses
         → (countIf (isZero l) k + count isZero es ≡ s .clauses → ClausesOf (count isZero es) es)
         → ClausesOf (countIf t (count isZero es)) (l ∷ es)
-    go true e q ih = rw (eqz-sound l (pos 0) e) (clause [] refl (ih (rw e (omega arith))))
+    go true e q ih = rw (eqz-sound l (pos 0) e) (clause [] List·Memᴰ·not-nil (ih (rw e (omega arith))))
     go false e q ih = clausesOf-cons e (omega (arith, f .not-behind)) (ih (rw e q))
 
 count-none : {A : Type 0} (p : A → Bool) (xs : List A) → any p xs ≡ false → count p xs ≡ 0
@@ -54,12 +55,12 @@ count-none p (x ∷ xs) h = rw (or-left (p x) (any p xs) h) (count-none p xs (or
 
 pub count-clausesOf : {m : ℕ} {es : List ℤ} → ClausesOf m es → count isZero es ≡ m
 count-clausesOf no-clause = refl
-count-clausesOf (clause cl {es} h c) = omega (arith, count-append isZero cl (pos 0 ∷ es), count-none isZero cl h, count-clausesOf c)
+count-clausesOf (clause cl {es} h c) = omega (arith, count-append isZero cl (pos 0 ∷ es), count-none isZero cl (noZero-complete cl h), count-clausesOf c)
 
 pub not-behind-of-clausesOf : {m : ℕ} {es : List ℤ} → ClausesOf m es → (front : List ℤ) (l : ℤ) (back : List ℤ)
     → es ≡ front ++ l ∷ back → count isZero front < m
 not-behind-of-clausesOf no-clause front l back e = absurd (nil-not-append front l back e)
-not-behind-of-clausesOf (clause {n} cl {es} h c) front l back e = inside cl h (λ f x b q. not-behind-of-clausesOf c f x b q) front e
+not-behind-of-clausesOf (clause {n} cl {es} h c) front l back e = inside cl (noZero-complete cl h) (λ f x b q. not-behind-of-clausesOf c f x b q) front e
   where
     inside : (cl : List ℤ) → any isZero cl ≡ false
         → ((front : List ℤ) (l : ℤ) (back : List ℤ) → es ≡ front ++ l ∷ back → count isZero front < n) → (front : List ℤ)
@@ -74,25 +75,25 @@ not-behind-of-clausesOf (clause {n} cl {es} h c) front l back e = inside cl h (�
 
 stops-of-ended : {bs : List ℕ} → Ended bs → Stops isBlank bs
 stops-of-ended at-end = Stops.at-end
-stops-of-ended (at-blank e) = Stops.at-one e
+stops-of-ended (at-blank e) = Stops.at-one (blank-complete e)
 
 ended-of-stops : {bs : List ℕ} → Stops isBlank bs → Ended bs
 ended-of-stops Stops.at-end = at-end
-ended-of-stops (Stops.at-one e) = at-blank e
+ended-of-stops (Stops.at-one {b} e) = at-blank (blank-sound b e)
 
 body-of-words : {at : ℕ} {xs : List ℕ} {ts : List Piece} {es : List ℤ} → Words isBlank at xs ts → Say ts es → Body xs es
-body-of-words (Words.none h) nothing = blanks (record { each = h })
-body-of-words (Words.word bs h w i j s r) (one-more t y) = token {bs = bs} (record { each = h }) t (ended-of-stops s) (body-of-words r y)
+body-of-words (Words.none {bs} h) nothing = blanks (blanks-sound bs h)
+body-of-words (Words.word bs h w i j s r) (one-more t y) = token {bs = bs} (blanks-sound bs h) t (ended-of-stops s) (body-of-words r y)
 
 pub body-of-say : (at : ℕ) (xs : List ℕ) {es : List ℤ} → Say (tokensFrom at xs) es → Body xs es
 unfolding tokensFrom
 body-of-say at xs y = body-of-words (words-exists isBlank at xs) y
 
 words-of-body : (at : ℕ) {xs : List ℕ} {es : List ℤ} → Body xs es → (ts : List Piece) × Words isBlank at xs ts × Say ts es
-words-of-body at (blanks h) = ([], Words.none (h .each), nothing)
+words-of-body at (blanks h) = ([], Words.none (blanks-complete h), nothing)
 words-of-body at (token {bs} {w} h t e b) =
     let later = words-of-body (at + length bs + length w) b in
-    (record { at = at + length bs; bytes = w } ∷ later .0, Words.word bs (h .each) (word-of-token t) refl refl (stops-of-ended e) (later .1), one-more t (later .2))
+    (record { at = at + length bs; bytes = w } ∷ later .0, Words.word bs (blanks-complete h) (word-of-token t) refl refl (stops-of-ended e) (later .1), one-more t (later .2))
 
 pub say-of-body : (at : ℕ) {xs : List ℕ} {es : List ℤ} → Body xs es → Say (tokensFrom at xs) es
 unfolding tokensFrom
@@ -120,7 +121,7 @@ parts-of-text (header-only {a} {h} b k) =
       is-header = k;
       stops = Stops.at-end;
       is-text = sym (append-nil (a ++ h));
-      body = blanks (record { each = refl });
+      body = blanks (blanks-sound [] refl);
     }
 parts-of-text (with-body {a} {h} {rest} b k y) =
     record { front = a; line = h; rest = 10 ∷ rest; before = b; is-header = k; stops = Stops.at-one refl; is-text = refl; body = y }

@@ -17,8 +17,9 @@ use Rattle.rules.specs.Lists.{any, all, keep, cut, eqs}
 use Rattle.rules.specs.Text.{isLf, isGap, isBlank, isDigit, isEmpty, isNumeral, numeral, Piece, isSkipped, Sizes, trimIf, trimmed, sizesIf, sizesOf, wordsOf, headerOf}
 use Rattle.rules.specs.Grammar.{NoLf, Gap, Numeral, Header, header}
 use Rattle.rules.proofs.ListLaws.{never, and-left, and-right, all-append-of, eqs-sound}
+use Rattle.rules.proofs.ByteLaws.{blanks-sound, blanks-complete, gaps-sound, gaps-complete, noLf-sound, noLf-complete}
 use Rattle.rules.proofs.CutLaws.{or-left, or-right, Cut, last, piece, cut-exists, cut-piece, Stops, at-end, at-one, Word, Words, none, word, placedWords, words-of-cut, words-unique, bytes-placedWords}
-use Rattle.rules.proofs.TokenLaws.{not-none, none-of-not, all-mono, any-of-all, any-append-of, any-append-right, blank-of-gap, digit-above, not-gap-of-digit, not-lf-of-gap, numeral-sound, numeral-complete, word-of-numeral}
+use Rattle.rules.proofs.TokenLaws.{not-none, none-of-not, all-mono, any-of-all, any-append-of, any-append-right, blank-of-gap, digit-above, not-gap-of-digit, not-lf-of-gap, numeral-sound, numeral-digits, numeral-says, numeral-complete, word-of-numeral}
 
 -- ---- the blanks behind a line
 
@@ -96,8 +97,8 @@ header-of-words line p g cnf h v k c end {s} gg gh gk b n q r =
     (header gg gh
     (numeral-sound v (and-left (isNumeral v) (isNumeral c) two) (told .1)) gk
     (numeral-sound c (and-right (isNumeral v) (isNumeral c) two) (told .2))
-    (record { each = b })
-    (record { none = any-append-right isLf (headerWords g h v k c) end (rw is-line at (n .none)) }))
+    (blanks-sound end b)
+    (noLf-sound end (any-append-right isLf (headerWords g h v k c) end (rw is-line at (noLf-complete n)))))
   where
     test : Bool
     test = eqs p p-word && (eqs cnf cnf-word && (isNumeral v && isNumeral c))
@@ -116,9 +117,9 @@ header-sound line {s} h n = cuts (cut-exists isGap (trimmed line)) h (trimmed-sp
     words y xs ys ts e (word g₁ h₁ w₁ i₁ j₁ s₁ (word g₂ h₂ w₂ i₂ j₂ s₂ (none h₃))) q r = absurd (not-none q refl)
     words y xs ys ts e (word g₁ {w = cnf} h₁ w₁ i₁ j₁ s₁ (word g₂ {w = v} h₂ w₂ i₂ j₂ s₂ (word g₃ {w = c} h₃ w₃ i₃ j₃ s₃ (none {bs} h₄)))) q r =
         header-of-words line xs (y ∷ g₁) cnf g₂ v g₃ c (bs ++ end)
-        (record { some = omega arith; each = rw e h₁ })
-        (record { some = gap-of-stops isGap g₂ (g₃ ++ c ++ bs) w₂ s₁; each = h₂ })
-        (record { some = gap-of-stops isGap g₃ bs w₃ s₂; each = h₃ })
+        (gaps-sound (y ∷ g₁) (omega arith) (rw e h₁))
+        (gaps-sound g₂ (gap-of-stops isGap g₂ (g₃ ++ c ++ bs) w₂ s₁) h₂)
+        (gaps-sound g₃ (gap-of-stops isGap g₃ bs w₃ s₂) h₃)
         (all-append-of isBlank bs end (all-mono isGap isBlank bs blank-of-gap h₄) (trimmed-split line .2))
         n (r ∙ regrouped xs (y ∷ []) g₁ cnf g₂ v g₃ c bs end) q
     words y xs ys ts e (word g₁ h₁ w₁ i₁ j₁ s₁ (word g₂ h₂ w₂ i₂ j₂ s₂ (word g₃ h₃ w₃ i₃ j₃ s₃ (word g₄ h₄ w₄ i₄ j₄ s₄ r₄)))) q r = absurd (not-none q refl)
@@ -131,10 +132,10 @@ header-sound line {s} h n = cuts (cut-exists isGap (trimmed line)) h (trimmed-sp
 
 stops-of-gap : {g : List ℕ} (w rest : List ℕ) → Gap g → Stops isGap (g ++ w ++ rest)
 stops-of-gap {g = []} w rest h = absurd (omega (arith, h .some))
-stops-of-gap {g = b ∷ g} w rest h = at-one (and-left (isGap b) (all isGap g) (h .each))
+stops-of-gap {g = b ∷ g} w rest h = at-one (and-left (isGap b) (all isGap g) (gaps-complete h))
 
 gap-word-of-numeral : {ds : List ℕ} {n : ℕ} → Numeral ds n → Word isGap ds
-gap-word-of-numeral {ds} m = record { some = m .some; none = any-of-all isDigit isGap ds not-gap-of-digit (m .digits) }
+gap-word-of-numeral {ds} m = record { some = m .some; none = any-of-all isDigit isGap ds not-gap-of-digit (numeral-digits m) }
 
 pub header-complete : {line : List ℕ} {vars clauses : ℕ} → Header line vars clauses
     → headerOf line ≡ some (record { vars = vars; clauses = clauses })
@@ -148,19 +149,19 @@ header-complete {vars} {clauses} (header {g = y ∷ g} {h} {k} {v} {c} {end} gg 
     trims : headerOf (headerWords (y ∷ g) h v k c ++ end) ≡ sizesOf (wordsOf (cut isGap (headerWords (y ∷ g) h v k c)))
     trims =
         ap (λ (t : List ℕ). sizesOf (wordsOf (cut isGap t)))
-        (trimmed-behind (p-word ++ y ∷ g ++ (cnf-word ++ h) ++ v ++ k) end (word-of-numeral nc) (b .each))
+        (trimmed-behind (p-word ++ y ∷ g ++ (cnf-word ++ h) ++ v ++ k) end (word-of-numeral nc) (blanks-complete b))
 
     cuts : sizesOf (wordsOf (cut isGap (headerWords (y ∷ g) h v k c))) ≡ sizesOf (p-word ∷ keep (λ w. not (isEmpty w)) (cut isGap rest))
     cuts =
         ap (λ (t : List ℕ). sizesOf (wordsOf (cut isGap t))) (regrouped-whole p-word (y ∷ []) g cnf-word h v k c) ∙
-        ap (λ (xss : List (List ℕ)). sizesOf (wordsOf xss)) (cut-piece isGap p-word y rest refl (and-left (isGap y) (all isGap g) (gg .each)))
+        ap (λ (xss : List (List ℕ)). sizesOf (wordsOf xss)) (cut-piece isGap p-word y rest refl (and-left (isGap y) (all isGap g) (gaps-complete gg)))
 
     three : (ts : List Piece) × Words isGap 0 rest ts × (map (λ (t : Piece). t .bytes) ts ≡ cnf-word ∷ v ∷ c ∷ [])
     three = (
       _,
-      word g {w = cnf-word} (and-right (isGap y) (all isGap g) (gg .each)) (record { some = omega arith; none = refl }) refl refl (stops-of-gap v (k ++ c ++ []) gh)
-          (word h (gh .each) (gap-word-of-numeral nv) refl refl (stops-of-gap c [] gk)
-          (word k (gk .each) (gap-word-of-numeral nc) refl refl at-end (none refl))),
+      word g {w = cnf-word} (and-right (isGap y) (all isGap g) (gaps-complete gg)) (record { some = omega arith; none = refl }) refl refl (stops-of-gap v (k ++ c ++ []) gh)
+          (word h (gaps-complete gh) (gap-word-of-numeral nv) refl refl (stops-of-gap c [] gk)
+          (word k (gaps-complete gk) (gap-word-of-numeral nc) refl refl at-end (none refl))),
       refl,
     )
 
@@ -170,7 +171,7 @@ header-complete {vars} {clauses} (header {g = y ∷ g} {h} {k} {v} {c} {end} gg 
         (sym (bytes-placedWords 0 (cut isGap rest)) ∙ ap (map (λ (t : Piece). t .bytes)) (words-unique isGap (three .1)) ∙ three .2)
 
     sizes : sizesOf (p-word ∷ cnf-word ∷ v ∷ c ∷ []) ≡ some (record { vars = vars; clauses = clauses })
-    sizes = rw (numeral-complete nv, numeral-complete nc, nv .says, nc .says)
+    sizes = rw (numeral-complete nv, numeral-complete nc, numeral-says nv, numeral-says nc)
 
 pub header-none : (line : List ℕ) → NoLf line → ((vars clauses : ℕ) → Header line vars clauses → ⊥) → headerOf line ≡ none
 header-none line n f = none-of-not (headerOf line) (λ s e. f (s .vars) (s .clauses) (header-sound line e n))
@@ -181,15 +182,15 @@ header-not-skipped at (header gg gh nv gk nc b n) = refl
 
 pub header-no-lf : {line : List ℕ} {vars clauses : ℕ} → Header line vars clauses → NoLf line
 header-no-lf (header {g} {h} gg gh nv gk nc b n) =
-    let first : NoLf (p-word ++ g) = record { none = gap gg .none } in
-    let second : NoLf (cnf-word ++ h) = record { none = gap gh .none } in
+    let first : NoLf (p-word ++ g) = noLf-sound (p-word ++ g) (noLf-complete (gap gg)) in
+    let second : NoLf (cnf-word ++ h) = noLf-sound (cnf-word ++ h) (noLf-complete (gap gh)) in
     join (join (join (join (join first second) (digits nv)) (gap gk)) (digits nc)) n
   where
     join : {xs ys : List ℕ} → NoLf xs → NoLf ys → NoLf (xs ++ ys)
-    join {xs} {ys} m n = record { none = any-append-of isLf xs ys (m .none) (n .none) }
+    join {xs} {ys} m n = noLf-sound (xs ++ ys) (any-append-of isLf xs ys (noLf-complete m) (noLf-complete n))
 
     gap : {bs : List ℕ} → Gap bs → NoLf bs
-    gap {bs} t = record { none = any-of-all isGap isLf bs not-lf-of-gap (t .each) }
+    gap {bs} t = noLf-sound bs (any-of-all isGap isLf bs not-lf-of-gap (gaps-complete t))
 
     digits : {ds : List ℕ} {n : ℕ} → Numeral ds n → NoLf ds
-    digits {ds} m = record { none = any-of-all isDigit isLf ds (λ x e. ne-eqb x 10 (omega (arith, digit-above x e))) (m .digits) }
+    digits {ds} m = noLf-sound ds (any-of-all isDigit isLf ds (λ x e. ne-eqb x 10 (omega (arith, digit-above x e))) (numeral-digits m))

@@ -1,4 +1,7 @@
+pub mod Quoted
 pub mod ListLaws
+pub mod DecimalLaws
+pub mod ByteLaws
 pub mod CutLaws
 pub mod TokenLaws
 pub mod LineLaws
@@ -8,7 +11,6 @@ pub mod VerdictLaws
 pub mod GrammarLaws
 pub mod RefusalLaws
 pub mod ReadingTheorems
-pub mod DecimalLaws
 pub mod PlainLaws
 pub mod MeaningLaws
 pub mod StateLaws
@@ -34,4 +36,6 @@ pub mod PlaceLaws
 pub mod TableLaws
 pub mod TableTheorems
 pub mod Starred
+pub mod AnswerCases
+pub mod EdgeCases
 pub mod Theorems

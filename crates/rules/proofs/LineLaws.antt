@@ -22,6 +22,7 @@ use Rattle.rules.specs.Reading.{behind}
 use Rattle.rules.specs.Grammar.{NoLf, Skipped, blanks, comment, Before, nothing, line}
 use Rattle.rules.specs.Refusals.{FirstLine}
 use Rattle.rules.proofs.ListLaws.{and-left, and-right}
+use Rattle.rules.proofs.ByteLaws.{noLf-sound, noLf-complete}
 use Rattle.rules.proofs.CutLaws.{nil-not-append, Cut, last, piece, cut-exists, cut-none, cut-piece, Stops, at-end, at-one}
 use Rattle.rules.proofs.TokenLaws.{skipped-sound, skipped-complete}
 
@@ -43,7 +44,7 @@ seam xs x ys zs vs = sym (ap (λ (us : List ℕ). us ++ vs) (append-assoc xs (x 
 front-now : (at : ℕ) {text : List ℕ} (bs rest : List ℕ) {found : Piece} → record { at = at; bytes = bs } ≡ found
     → any isLf bs ≡ false → Stops isLf rest → text ≡ bs ++ rest → Front at text found
 front-now at bs rest e h s q =
-    subst (Front at _) e (record { front = []; rest = rest; before = nothing; is-text = q; place = omega arith; one-line = record { none = h }; stops = s })
+    subst (Front at _) e (record { front = []; rest = rest; before = nothing; is-text = q; place = omega arith; one-line = noLf-sound bs h; stops = s })
 
 front-later : {at next : ℕ} {text : List ℕ} (bs rest : List ℕ) {found : Piece} → Skipped bs → next ≡ at + length bs + 1
     → text ≡ bs ++ 10 ∷ rest → Front next rest found → Front at text found
@@ -66,7 +67,7 @@ front-of-lines at [] found after (piece {xs} {y} {ys} h q c) e k = front-now at 
 front-of-lines at (b ∷ before) found after (piece {xs} {y} {ys} {yss} h q c) e k =
     let first : record { at = at; bytes = xs } ≡ b = cc in
     front-later xs ys
-    (skipped-sound (record { at = at; bytes = xs }) (ap isSkipped first ∙ and-left (isSkipped b) (all isSkipped before) k) (record { none = h }))
+    (skipped-sound (record { at = at; bytes = xs }) (ap isSkipped first ∙ and-left (isSkipped b) (all isSkipped before) k) (noLf-sound xs h))
     refl
     (ap (λ (z : ℕ). xs ++ z ∷ ys) (eqb-true y 10 q))
     (front-of-lines (at + length xs + 1) before found after c (cc) (and-right (isSkipped b) (all isSkipped before) k))
@@ -91,14 +92,14 @@ record Placed (at : ℕ) (text : List ℕ) (found : Piece) : Type 0 where
   skipped : all isSkipped before ≡ true
 
 skipped-no-lf : {bs : List ℕ} → Skipped bs → any isLf bs ≡ false
-skipped-no-lf (blanks h n) = n .none
-skipped-no-lf (comment n) = n .none
+skipped-no-lf (blanks h n) = noLf-complete n
+skipped-no-lf (comment n) = noLf-complete n
 
 placed-now : (at : ℕ) (bs : List ℕ) {rest : List ℕ} → NoLf bs → Stops isLf rest → Placed at (bs ++ rest) (record { at = at; bytes = bs })
 placed-now at bs n at-end =
-    record { before = []; after = []; lines = ap (placedFrom at) (ap (cut isLf) (append-nil bs) ∙ cut-none isLf bs (n .none)); skipped = refl }
+    record { before = []; after = []; lines = ap (placedFrom at) (ap (cut isLf) (append-nil bs) ∙ cut-none isLf bs (noLf-complete n)); skipped = refl }
 placed-now at bs n (at-one {b = y} {bs = ys} e) =
-    record { before = []; after = placedFrom (at + length bs + 1) (cut isLf ys); lines = ap (placedFrom at) (cut-piece isLf bs y ys (n .none) e); skipped = refl }
+    record { before = []; after = placedFrom (at + length bs + 1) (cut isLf ys); lines = ap (placedFrom at) (cut-piece isLf bs y ys (noLf-complete n) e); skipped = refl }
 
 placed-later : {at next : ℕ} (bs text : List ℕ) {found : Piece} → Skipped bs → next ≡ at + length bs + 1 → Placed next text found
     → Placed at (bs ++ 10 ∷ text) found

@@ -16,9 +16,9 @@
 --   text-plain, plain-dimacs       a formula within the sizes, printed, is a text that says the formula
 --
 -- Assumes nothing.
-use mathlib.Core.Path.{_≡_, refl, _∙_, ap}
+use mathlib.Core.Path.{_≡_, refl, _∙_, ap, subst}
 use mathlib.Core.Logic.{_⊎_, inl, inr}
-use mathlib.Core.Bool.{true, false}
+use mathlib.Core.Bool.{false}
 use mathlib.Core.List.{List, [], _∷_, _++_, map, append-nil, append-assoc, List·Memᴰ·head, List·Memᴰ·tail, List·Memᴰ·not-nil, List·Memᴰ·append-cases, List·Memᴰ·cases-cons}
 use Prim.Native.Nat.{ℕ, zero, suc, _+_, _*_, _^_, _≤_, _<_}
 use native.Mathlib.Omega.{arith}
@@ -26,12 +26,12 @@ use lib.IntN.{ℤ, pos, negsuc}
 use lib.ListN.{length, length-append}
 use Rattle.rules.specs.Lists.{In, any, joined}
 use Rattle.rules.specs.Numbers.{maxVars, maxClauses}
-use Rattle.rules.specs.Text.{isBlank, numeral}
 use Rattle.rules.specs.Meaning.{varOf, LitUpTo, Clause, leading, clauses}
 use Rattle.rules.specs.Reading.{isZero}
-use Rattle.rules.specs.Grammar.{Blanks, Before, Gap, Numeral, Header, Token, Ended, Body, Text, ClausesOf, Dimacs}
+use Rattle.rules.specs.Grammar.{IsBlank, Blanks, Before, Gap, Digits, Numeral, Header, Token, Ended, Body, Text, ClausesOf, Dimacs}
 use Rattle.rules.specs.Plain.{decimal, plainEntry, plainClause, plainHeader, plain, entriesOf, Within}
 use Rattle.rules.proofs.ListLaws.{never, none-of-any, any-of-none, eqz-other}
+use Rattle.rules.proofs.ByteLaws.{blank-complete, blanks-sound, blanks-complete, gaps-sound, noLf-sound, digits-sound, noZero-sound, noZero-complete}
 use Rattle.rules.proofs.DecimalLaws.{decimal-digits, decimal-some, decimal-most, decimal-vars, decimal-clauses, numeral-decimal}
 
 -- ---- entries and clauses
@@ -55,18 +55,18 @@ pub entriesOf-clauses : {n : ℕ} {es : List ℤ} → ClausesOf n es → (entrie
 entriesOf-clauses ClausesOf.no-clause = (refl, refl)
 entriesOf-clauses (ClausesOf.clause cl {es = es} h w) =
     let (e, f) = entriesOf-clauses w in
-    rw (clauses-clause cl es h) (rw e, rw f)
+    rw (clauses-clause cl es (noZero-complete cl h)) (rw e, rw f)
 
 pub clauses-of-entriesOf : (F : List Clause) → ((cl : Clause) → In cl F → any isZero cl ≡ false) → ClausesOf (length F) (entriesOf F)
 clauses-of-entriesOf [] h = ClausesOf.no-clause
 clauses-of-entriesOf (cl ∷ F) h =
-    ClausesOf.clause cl (h cl (List·Memᴰ·head refl)) (clauses-of-entriesOf F (λ d i. h d (List·Memᴰ·tail i)))
+    ClausesOf.clause cl (noZero-sound cl (h cl (List·Memᴰ·head refl))) (clauses-of-entriesOf F (λ d i. h d (List·Memᴰ·tail i)))
 
 -- ---- tokens
 
 pub numeral-of-decimal : (n : ℕ) → n < 10 ^ 9 → Numeral (decimal n) n
 numeral-of-decimal n h =
-    record { digits = decimal-digits n; some = decimal-some n; most = decimal-most 9 n (omega arith) (omega arith); says = numeral-decimal n }
+    record { digits = subst (Digits (decimal n)) (numeral-decimal n) (digits-sound (decimal n) (decimal-digits n)); some = decimal-some n; most = decimal-most 9 n (omega arith) (omega arith) }
 
 pub token-plainEntry : (l : ℤ) → varOf l < 10 ^ 9 → Token (plainEntry l) l
 token-plainEntry (pos n) h = Token.plain (numeral-of-decimal n h)
@@ -75,28 +75,27 @@ token-plainEntry (negsuc n) h = Token.minus (numeral-of-decimal (suc n) h)
 -- ---- the body
 
 no-blanks : Blanks []
-no-blanks = record { each = refl }
+no-blanks = blanks-sound [] refl
 
-blanks-cons : {b : ℕ} {bs : List ℕ} → isBlank b ≡ true → Blanks bs → Blanks (b ∷ bs)
-blanks-cons {b} {bs} e s = record { each = rw e (s .each) }
+blanks-cons : {b : ℕ} {bs : List ℕ} → IsBlank b → Blanks bs → Blanks (b ∷ bs)
+blanks-cons {b} {bs} e s = blanks-sound (b ∷ bs) (rw (blank-complete e) (blanks-complete s))
 
-pub body-blank : {b : ℕ} {bs : List ℕ} {es : List ℤ} → isBlank b ≡ true → Body bs es → Body (b ∷ bs) es
+pub body-blank : {b : ℕ} {bs : List ℕ} {es : List ℤ} → IsBlank b → Body bs es → Body (b ∷ bs) es
 body-blank e (Body.blanks s) = Body.blanks (blanks-cons e s)
 body-blank e (Body.token s t d w) = Body.token (blanks-cons e s) t d w
 
 token-zero : Token (48 ∷ []) (pos 0)
-unfolding numeral
-token-zero = Token.plain {ds = 48 ∷ []} (record { digits = refl; some = omega arith; most = omega arith; says = refl })
+token-zero = Token.plain {ds = 48 ∷ []} (record { digits = Digits.digit-behind 0 Digits.no-digits (omega arith); some = omega arith; most = omega arith })
 
 pub body-plainClause : (cl : Clause) {rest : List ℕ} {es : List ℤ} → ((l : ℤ) → In l cl → varOf l < 10 ^ 9) → Body rest es → Body (plainClause cl ++ rest) (cl ++ pos 0 ∷ es)
-body-plainClause [] h w = Body.token no-blanks token-zero (Ended.at-blank refl) (body-blank refl w)
+body-plainClause [] h w = Body.token no-blanks token-zero (Ended.at-blank IsBlank.lf) (body-blank IsBlank.lf w)
 body-plainClause (l ∷ cl) {rest} {es} h w =
     rw (append-assoc (plainEntry l) (32 ∷ plainClause cl) rest)
     (Body.token
     no-blanks
     (token-plainEntry l (h l (List·Memᴰ·head refl)))
-    (Ended.at-blank refl)
-    (body-blank refl (body-plainClause cl (λ k i. h k (List·Memᴰ·tail i)) w)))
+    (Ended.at-blank IsBlank.space)
+    (body-blank IsBlank.space (body-plainClause cl (λ k i. h k (List·Memᴰ·tail i)) w)))
 
 pub body-plain : (F : List Clause) → ((cl : Clause) → In cl F → (l : ℤ) → In l cl → varOf l < 10 ^ 9) → Body (joined (map plainClause F)) (entriesOf F)
 body-plain [] h = Body.blanks no-blanks
@@ -106,11 +105,11 @@ body-plain (cl ∷ F) h =
 -- ---- the header
 
 space : Gap (32 ∷ [])
-space = record { some = omega arith; each = refl }
+space = gaps-sound (32 ∷ []) (omega arith) refl
 
 pub header-plain : (vars n : ℕ) → vars < 10 ^ 9 → n < 10 ^ 9 → Header (plainHeader vars n) vars n
 header-plain vars n h k =
-    let line = Header.header space space (numeral-of-decimal vars h) space (numeral-of-decimal n k) no-blanks (record { none = refl }) in
+    let line = Header.header space space (numeral-of-decimal vars h) space (numeral-of-decimal n k) no-blanks (noLf-sound [] refl) in
     rw (append-nil (decimal vars ++ (32 ∷ []) ++ decimal n), append-assoc (decimal vars) (32 ∷ []) (decimal n)) at line
 
 -- ---- lengths

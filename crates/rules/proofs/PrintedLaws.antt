@@ -1,54 +1,89 @@
--- The laws of specs/Printed: its contract has exactly one solution, its run is never refused, and the example of docs/RULES.md computed.
+-- The laws of specs/Printed: its contract has exactly one solution, its run is never refused, and tables computed.
 --
+--   shown             the example of docs/RULES.md, and a table of each other kind
+--   shown-stopped     a table after 21
+--   table-given       the budget and the chunk limit of the table program
 --   prints-exists, prints-unique     one result and one buffer satisfy the contract
 --   table-runs        the run of the table program is never refused
---   shown             the example of docs/RULES.md
 --
 -- Assumes nothing.
-use mathlib.Core.Path.{_≡_, refl, sym, _∙_, ap}
-use mathlib.Core.Bool.{Bool, true, false}
+use mathlib.Core.Path.{_≡_, refl, sym, _∙_}
+use mathlib.Core.Bool.{Bool, true}
 use mathlib.Core.List.{List, [], _∷_, _++_}
-use mathlib.Core.Option.{none}
-use Prim.Native.Nat.{ℕ, zero, suc, _+_, _-_, _*_, _≤_, _<_}
+use Prim.Native.Nat.{ℕ}
 use native.Mathlib.Omega.{arith}
+use Prim.Native.String.{String}
 use lib.IntN.{ℤ}
 use lib.Dec.{leb}
-use lib.ListN.{length, drop, replicate, length-append, length-replicate}
-use Rattle.rules.specs.declared.ReadAnswer.{ReadAnswer}
+use lib.ListN.{length, length-replicate}
 use Rattle.rules.specs.declared.RunAnswer.{RunAnswer}
-use Rattle.rules.specs.declared.Report.{Report}
-use Rattle.rules.specs.Numbers.{maxText, maxVars, maxEntries, readNumber, readPlace, runNumber, runPlace}
+use Rattle.rules.specs.Lists.{all, eqs}
 use Rattle.rules.specs.Text.{Sizes, linesOf, tokensFrom, numeral, headerOf, entryOf}
-use Rattle.rules.specs.Reading.{Judged, accepted, refused, judge, judgeTokens, judgeLines}
+use Rattle.rules.specs.Reading.{accepted, refused, judge, judgeTokens, judgeLines}
 use Rattle.rules.specs.Grammar.{Dimacs}
 use Rattle.rules.specs.Closing.{stateOf, closeIn, closing}
 use Rattle.rules.specs.Search.{goOn, callOn}
 use Rattle.rules.specs.Plain.{decimal, decimalIn}
 use Rattle.rules.specs.Run.{chunkCall, chunksIn, chunks, firstCall, run}
-use Rattle.rules.specs.Answer.{Given, logLength, refusalOf, reportOf, statusAfter}
+use Rattle.rules.specs.Answer.{logLength, refusalOf, reportOf, statusAfter}
 use Rattle.rules.specs.RunRefusals.{Accepted}
-use Rattle.rules.specs.Printed.{answerWord, refusedLine, answerLine, statusWords, statusLines, tableBy, tableOfRun, tableGiven, tableOfJudged, tableOf, maxTable, countIfRoom, bytesIfRoom, Prints}
+use Rattle.rules.specs.Printed.{tableOfRun, tableGiven, tableOf, maxTable, countIfRoom, bytesIfRoom, Prints}
+use Rattle.rules.proofs.Quoted.{quoted}
 use Rattle.rules.proofs.GrammarLaws.{accepted-sound}
-use Rattle.rules.proofs.DecimalLaws.{decimal-most}
 use Rattle.rules.proofs.TextTheorems.{dimacs-runs}
-use Rattle.rules.proofs.RefusedRuns.{run-accepted}
 
--- ---- the example of docs/RULES.md
+-- ---- the example of docs/RULES.md, and a table of each other kind, computed
 
--- `p cnf 2 2`, LF, `1 2 0 1 -2 0`, LF
-abbrev exampleText : List ℕ
-exampleText = 112 ∷ 32 ∷ 99 ∷ 110 ∷ 102 ∷ 32 ∷ 50 ∷ 32 ∷ 50 ∷ 10 ∷ 49 ∷ 32 ∷ 50 ∷ 32 ∷ 48 ∷ 32 ∷ 49 ∷ 32 ∷ 45 ∷ 50 ∷ 32 ∷ 48 ∷ 10 ∷ []
+-- a text, and the table that is printed for it, line by line
+pub record Shown : Type 0 where
+  pub text : String
+  pub table : List String
 
--- `answer 0 calls 2 tries 3 forced 1 free 1 open 0`, LF, `1 forced on`, LF, `2 free`, LF
-abbrev exampleTable : List ℕ
-exampleTable =
-    97 ∷ 110 ∷ 115 ∷ 119 ∷ 101 ∷ 114 ∷ 32 ∷ 48 ∷ 32 ∷ 99 ∷ 97 ∷ 108 ∷ 108 ∷ 115 ∷ 32 ∷ 50 ∷ 32 ∷ 116 ∷ 114 ∷ 105 ∷ 101 ∷ 115 ∷ 32 ∷ 51 ∷
-    32 ∷ 102 ∷ 111 ∷ 114 ∷ 99 ∷ 101 ∷ 100 ∷ 32 ∷ 49 ∷ 32 ∷ 102 ∷ 114 ∷ 101 ∷ 101 ∷ 32 ∷ 49 ∷ 32 ∷ 111 ∷ 112 ∷ 101 ∷ 110 ∷ 32 ∷ 48 ∷ 10 ∷
-    49 ∷ 32 ∷ 102 ∷ 111 ∷ 114 ∷ 99 ∷ 101 ∷ 100 ∷ 32 ∷ 111 ∷ 110 ∷ 10 ∷ 50 ∷ 32 ∷ 102 ∷ 114 ∷ 101 ∷ 101 ∷ 10 ∷ []
+abbrev shows : String → List String → Shown
+shows text table = record { text = text; table = table }
 
-pub shown : tableOf exampleText ≡ exampleTable
+abbrev pub linesIn : List String → List ℕ
+linesIn [] = []
+linesIn (s ∷ ss) = quoted s ++ linesIn ss
+
+abbrev pub tables : List Shown
+tables =
+    -- the example
+    shows "p cnf 2 2\n1 2 0 1 -2 0\n"
+    ("answer 0 calls 2 tries 3 forced 1 free 1 open 0\n" ∷ "1 forced on\n" ∷ "2 free\n" ∷ []) ∷
+    -- forced off
+    shows "p cnf 2 2\n-1 0 1 2 0\n"
+    ("answer 0 calls 3 tries 0 forced 2 free 0 open 0\n" ∷ "1 forced off\n" ∷ "2 forced on\n" ∷ []) ∷
+    -- "After 20 only the first line is printed"
+    shows "p cnf 1 2\n1 0 -1 0\n"
+    ("answer 20 calls 1 tries 0 forced 0 free 0 open 1\n" ∷ []) ∷
+    -- "after a refusal only `refused N place P`"
+    shows "c\np cnf 1 1\n2 0\n" ("refused 7 place 12\n" ∷ []) ∷
+    shows "p cnf 1\n" ("refused 3 place 0\n" ∷ []) ∷
+    -- no variable, and so no line but the first
+    shows "p cnf 0 0" ("answer 0 calls 1 tries 0 forced 0 free 0 open 0\n" ∷ []) ∷
+    -- numbers of two digits
+    shows "p cnf 10 0"
+    ("answer 0 calls 1 tries 10 forced 0 free 10 open 0\n" ∷
+    "1 free\n" ∷ "2 free\n" ∷ "3 free\n" ∷ "4 free\n" ∷ "5 free\n" ∷ "6 free\n" ∷ "7 free\n" ∷ "8 free\n" ∷ "9 free\n" ∷ "10 free\n" ∷ []) ∷
+    []
+
+abbrev pub passes : Shown → Bool
+passes s = eqs (tableOf (quoted (s .text))) (linesIn (s .table))
+
+pub shown : all passes tables ≡ true
 unfolding tableOf judge linesOf judgeLines headerOf numeral tokensFrom judgeTokens entryOf stateOf closeIn closing goOn callOn chunkCall chunksIn chunks firstCall run refusalOf reportOf statusAfter decimal decimalIn
 shown = refl
+
+-- a stopped run: every word for a variable, and open is V less both
+pub shown-stopped : tableOfRun 5 (record { answer = RunAnswer.Stopped; calls = 4; tries = 1000000; forced = 2; free = 1 }) (2 ∷ 3 ∷ 0 ∷ 1 ∷ 0 ∷ [])
+    ≡ linesIn ("answer 21 calls 4 tries 1000000 forced 2 free 1 open 2\n" ∷ "1 forced on\n" ∷ "2 forced off\n" ∷ "3 open\n" ∷ "4 free\n" ∷ "5 open\n" ∷ [])
+unfolding decimal decimalIn
+shown-stopped = refl
+
+-- "with budget 1,000,000 and chunk limit 16"
+pub table-given : (s : Sizes) (es : List ℤ) → (tableGiven s es .budget ≡ 1000000) × (tableGiven s es .limit ≡ 16)
+table-given s es = (refl, refl)
 
 -- ---- the contract
 

@@ -4,19 +4,22 @@
 --   read-refuses, read-refused    refused with a number exactly if the rule of that number says so
 --   reads-exists, reads-unique    there is a result that meets the contract, and no second one
 --   length-entriesAfter           nothing beyond the buffer is written
+--   refused-keeps, refused-clears, refused-counts     after 1 and 2 the buffer is as it was, after 3 to 9 it has zeros; no counts
+--   accepted-fills                the entries, zeros, and the rest as it was
 --   SmallText, smallTexts, answerTo, passes, small-texts     the small texts of docs/RULES.md, computed
 --
 -- Assumes nothing.
 use mathlib.Core.Path.{_≡_, refl, sym, _∙_, ap, subst, subst₂}
-use mathlib.Core.Logic.{_≢_, _↔_}
+use mathlib.Core.Logic.{_≢_, _↔_, _⊎_, ⊎-elim}
 use mathlib.Core.Bool.{Bool, true, _&&_}
 use mathlib.Core.List.{List, [], _∷_, _++_, append-assoc}
 use Prim.Native.Nat.{ℕ, _-_, _≤_}
+use Prim.Native.String.{String}
 use native.Mathlib.Omega.{arith}
 use lib.Dec.{eqb}
 use lib.IntN.{ℤ, pos}
 use lib.ListN.{length, take, drop, replicate, length-append, length-replicate, length-drop}
-use lib.Seq.{take-append-seam}
+use lib.Seq.{take-append-seam, drop-append-seam, take-at, drop-at}
 use Rattle.rules.specs.declared.ReadAnswer.{ReadAnswer}
 use Rattle.rules.specs.declared.Reading.{Reading}
 use Rattle.rules.specs.Lists.{all}
@@ -25,6 +28,7 @@ use Rattle.rules.specs.Text.{Sizes, linesOf, tokensFrom, numeral, header
 use Rattle.rules.specs.Reading.{Judged, accepted, refused, judge, judgeTokens, judgeLines, returned, readingOf, filled, written, entriesAfter, Reads}
 use Rattle.rules.specs.Grammar.{Dimacs}
 use Rattle.rules.specs.Refusals.{Begun, Refuses, buffer-short, text-long, no-header, bad-header, header-large, bad-token, token-after-last, variable-above, entry-over, ends-early}
+use Rattle.rules.proofs.Quoted.{quoted}
 use Rattle.rules.proofs.VerdictLaws.{Verdict, refuses, accepts, verdict-of-judge}
 use Rattle.rules.proofs.GrammarLaws.{dimacs-of-whole, accepted-sound, accepted-complete}
 use Rattle.rules.proofs.RefusalLaws.{refusal-sound, refusal-complete, accepted-never-answer}
@@ -32,13 +36,14 @@ use Rattle.rules.proofs.RefusalLaws.{refusal-sound, refusal-complete, a
 -- ---- accepted
 
 -- the entries stand in front of what the buffer holds
+filled-front : (es before : List ℤ) → take (length es) (filled es before) ≡ es
+filled-front es before =
+    ap (take (length es)) (append-assoc es (replicate (maxEntries - length es) (pos 0)) (drop maxEntries before)) ∙
+    take-append-seam es (replicate (maxEntries - length es) (pos 0) ++ drop maxEntries before)
+
 filled-inj : (xs ys before : List ℤ) → length xs ≡ length ys → filled xs before ≡ filled ys before → xs ≡ ys
-filled-inj xs ys before n e = sym (front xs) ∙ ap (take (length xs)) e ∙ ap (λ (i : ℕ). take i (filled ys before)) n ∙ front ys
-  where
-    front : (zs : List ℤ) → take (length zs) (filled zs before) ≡ zs
-    front zs =
-        ap (take (length zs)) (append-assoc zs (replicate (maxEntries - length zs) (pos 0)) (drop maxEntries before)) ∙
-        take-append-seam zs (replicate (maxEntries - length zs) (pos 0) ++ drop maxEntries before)
+filled-inj xs ys before n e =
+    sym (filled-front xs before) ∙ ap (take (length xs)) e ∙ ap (λ (i : ℕ). take i (filled ys before)) n ∙ filled-front ys before
 
 -- A long enough buffer gets V, C and the entry count of a DIMACS text, its entries, zeros, and keeps its rest; and no other text does so.
 pub read-accepts : (text : List ℕ) (before : List ℤ) → maxEntries ≤ length before → (s : Sizes) (es : List ℤ)
@@ -135,28 +140,97 @@ module _ (text : List ℕ) (before : List ℤ) where
       go (refuses r) = length-refused r
       go (accepts {es} w) = length-filled es before (w .fine .most) (w .begun .room-fits)
 
+-- ---- what the buffer holds and what is counted, number by number, in the words of "What comes back"
+
+-- After 1 and 2 nothing is written.
+pub refused-keeps : (text : List ℕ) (before : List ℤ) → (readNumber (readingOf text before .answer) ≡ 1) ⊎ (readNumber (readingOf text before .answer) ≡ 2)
+    → entriesAfter text before ≡ before
+unfolding readingOf entriesAfter
+refused-keeps text before h = go (judge (length before) text) (⊎-elim (λ e. omega arith) (λ e. omega arith) h) (⊎-elim (λ e. omega arith) (λ e. omega arith) h)
+  where
+    go : (j : Judged) → 1 ≤ readNumber (returned j .answer) → readNumber (returned j .answer) ≤ 2 → written j before ≡ before
+    go (accepted s es) h k = absurd (omega arith)
+    go (refused ReadAnswer.Accepted) h k = refl
+    go (refused ReadAnswer.BufferShort) h k = refl
+    go (refused ReadAnswer.TextLong) h k = refl
+    go (refused (ReadAnswer.BadHeader at)) h k = absurd (omega arith)
+    go (refused (ReadAnswer.HeaderLarge at)) h k = absurd (omega arith)
+    go (refused (ReadAnswer.BadToken at)) h k = absurd (omega arith)
+    go (refused (ReadAnswer.TokenAfterLast at)) h k = absurd (omega arith)
+    go (refused (ReadAnswer.VariableAbove at)) h k = absurd (omega arith)
+    go (refused (ReadAnswer.EntryOver at)) h k = absurd (omega arith)
+    go (refused (ReadAnswer.EndsEarly at)) h k = absurd (omega arith)
+
+-- After 3 to 9 the first 4,096 entries are zeros, and the rest is as it was.
+pub refused-clears : (text : List ℕ) (before : List ℤ) → 3 ≤ readNumber (readingOf text before .answer)
+    → entriesAfter text before ≡ replicate 4096 (pos 0) ++ drop 4096 before
+unfolding readingOf entriesAfter
+refused-clears text before h = go (judge (length before) text) h
+  where
+    go : (j : Judged) → 3 ≤ readNumber (returned j .answer) → written j before ≡ replicate 4096 (pos 0) ++ drop 4096 before
+    go (accepted s es) h = absurd (omega arith)
+    go (refused ReadAnswer.Accepted) h = absurd (omega arith)
+    go (refused ReadAnswer.BufferShort) h = absurd (omega arith)
+    go (refused ReadAnswer.TextLong) h = absurd (omega arith)
+    go (refused (ReadAnswer.BadHeader at)) h = refl
+    go (refused (ReadAnswer.HeaderLarge at)) h = refl
+    go (refused (ReadAnswer.BadToken at)) h = refl
+    go (refused (ReadAnswer.TokenAfterLast at)) h = refl
+    go (refused (ReadAnswer.VariableAbove at)) h = refl
+    go (refused (ReadAnswer.EntryOver at)) h = refl
+    go (refused (ReadAnswer.EndsEarly at)) h = refl
+
+-- After every refusal V, C and the entry count are zero.
+pub refused-counts : (text : List ℕ) (before : List ℤ) → 1 ≤ readNumber (readingOf text before .answer)
+    → (readingOf text before .vars ≡ 0) × (readingOf text before .clauses ≡ 0) × (readingOf text before .entries ≡ 0)
+unfolding readingOf
+refused-counts text before h = go (judge (length before) text) h
+  where
+    go : (j : Judged) → 1 ≤ readNumber (returned j .answer)
+        → (returned j .vars ≡ 0) × (returned j .clauses ≡ 0) × (returned j .entries ≡ 0)
+    go (accepted s es) h = absurd (omega arith)
+    go (refused a) h = (refl, refl, refl)
+
+-- An accepted text's entries stand in front, then zeros up to 4,096, and the rest is as it was.
+pub accepted-fills : (text : List ℕ) (before : List ℤ) {vars clauses : ℕ} {es : List ℤ} → 4096 ≤ length before → Dimacs text vars clauses es
+    → (take (length es) (entriesAfter text before) ≡ es)
+    × (take (4096 - length es) (drop (length es) (entriesAfter text before)) ≡ replicate (4096 - length es) (pos 0))
+    × (drop 4096 (entriesAfter text before) ≡ drop 4096 before)
+accepted-fills text before {vars} {clauses} {es} h d =
+    rw (read-accepts text before h (record { vars = vars; clauses = clauses }) es .0 d .1) (front, middle, back)
+  where
+    front : take (length es) (filled es before) ≡ es
+    front = filled-front es before
+
+    middle : take (4096 - length es) (drop (length es) (filled es before)) ≡ replicate (4096 - length es) (pos 0)
+    middle =
+        ap (λ (xs : List ℤ). take (4096 - length es) (drop (length es) xs)) (append-assoc es (replicate (4096 - length es) (pos 0)) (drop 4096 before)) ∙
+        ap (take (4096 - length es)) (drop-append-seam es (replicate (4096 - length es) (pos 0) ++ drop 4096 before)) ∙
+        take-at (replicate (4096 - length es) (pos 0)) (drop 4096 before) (4096 - length es) (length-replicate (4096 - length es) (pos 0))
+
+    back : drop 4096 (filled es before) ≡ drop 4096 before
+    back =
+        drop-at (es ++ replicate (4096 - length es) (pos 0)) (drop 4096 before) 4096
+        (length-append es (replicate (4096 - length es) (pos 0)) ∙ omega (arith, length-replicate (4096 - length es) (pos 0), d .entries-fit))
+
 -- ---- the four small texts, each after `p cnf 1 1` and LF
 
 pub record SmallText : Type 0 where
-  pub behind : List ℕ
+  pub behind : String
   pub number : ℕ
   pub place : ℕ
 
 unfoldable pub smallTexts : List SmallText
 smallTexts =
-    -- `2 0`
-    record { behind = 50 ∷ 32 ∷ 48 ∷ []; number = 7; place = 10 } ∷
-    -- `-0 0`
-    record { behind = 45 ∷ 48 ∷ 32 ∷ 48 ∷ []; number = 5; place = 10 } ∷
-    -- `1` and LF
-    record { behind = 49 ∷ 10 ∷ []; number = 9; place = 12 } ∷
-    -- `1 0 1 0`
-    record { behind = 49 ∷ 32 ∷ 48 ∷ 32 ∷ 49 ∷ 32 ∷ 48 ∷ []; number = 6; place = 14 } ∷
+    record { behind = "2 0"; number = 7; place = 10 } ∷
+    record { behind = "-0 0"; number = 5; place = 10 } ∷
+    record { behind = "1\n"; number = 9; place = 12 } ∷
+    record { behind = "1 0 1 0"; number = 6; place = 14 } ∷
     []
 
 -- the answer to such a text, with a buffer of 4,096 entries
-unfoldable pub answerTo : List ℕ → ReadAnswer
-answerTo behind = readingOf (112 ∷ 32 ∷ 99 ∷ 110 ∷ 102 ∷ 32 ∷ 49 ∷ 32 ∷ 49 ∷ 10 ∷ behind) (replicate maxEntries (pos 0)) .answer
+unfoldable pub answerTo : String → ReadAnswer
+answerTo behind = readingOf (quoted "p cnf 1 1\n" ++ quoted behind) (replicate 4096 (pos 0)) .answer
 
 unfoldable pub passes : SmallText → Bool
 passes t = eqb (readNumber (answerTo (t .behind))) (t .number) && eqb (readPlace (answerTo (t .behind))) (t .place)

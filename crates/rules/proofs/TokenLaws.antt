@@ -4,12 +4,12 @@
 --   not-none, none-of-not         nothing is not something; what is no thing is nothing
 --   all-mono, any-of-all, any-append-of, any-append-right     tests that follow from others; any over `++`
 --   blank-of-gap, digit-above, not-gap-of-digit, not-lf-of-gap     bytes
---   numeral-sound, numeral-complete     1 to 9 digits; word-of-numeral: they have no blank
+--   numeral-sound, numeral-complete, numeral-digits, numeral-says     1 to 9 digits; word-of-numeral: they have no blank
 --   entry-sound, entry-complete, entry-none     a token and the entry it says; word-of-token: it has no blank
 --   skipped-sound, skipped-complete     lines before the header
 --
 -- Assumes nothing.
-use mathlib.Core.Path.{_≡_, refl}
+use mathlib.Core.Path.{_≡_, refl, subst}
 use mathlib.Core.Bool.{Bool, true, false, _&&_, _||_, or-true}
 use mathlib.Core.List.{List, [], _∷_, _++_}
 use mathlib.Core.Option.{Option, none, some}
@@ -21,8 +21,9 @@ use lib.ListN.{length}
 use borrow.Author.Tests.{eqb-true, ne-eqb, leb-true, le-leb}
 use Rattle.rules.specs.Lists.{any, all}
 use Rattle.rules.specs.Text.{isLf, isGap, isBlank, isDigit, isNumeral, numeral, Piece, isComment, isSkipped, negativeOf, entryIf, signedIf, entryOf}
-use Rattle.rules.specs.Grammar.{NoLf, Skipped, blanks, comment, Numeral, Token, plain, minus}
+use Rattle.rules.specs.Grammar.{NoLf, Skipped, blanks, comment, Digits, Numeral, Token, plain, minus}
 use Rattle.rules.proofs.ListLaws.{never, not-true, and-left, and-right, all-sound, all-complete, any-of-none, any-append}
+use Rattle.rules.proofs.ByteLaws.{blanks-sound, blanks-complete, noLf-sound, noLf-complete, digits-sound, digits-complete}
 use Rattle.rules.proofs.CutLaws.{or-right, Word}
 
 pub not-none : {A : Type 0} {o : Option A} {a : A} → o ≡ some a → o ≡ none → ⊥
@@ -72,18 +73,23 @@ pub numeral-sound : (ds : List ℕ) {n : ℕ} → isNumeral ds ≡ true → nume
 numeral-sound ds h e =
     let two = and-right (all isDigit ds) (leb 1 (length ds) && leb (length ds) 9) h in
     record {
-      digits = and-left (all isDigit ds) (leb 1 (length ds) && leb (length ds) 9) h;
+      digits = subst (Digits ds) e (digits-sound ds (and-left (all isDigit ds) (leb 1 (length ds) && leb (length ds) 9) h));
       some = leb-true 1 (length ds) (and-left (leb 1 (length ds)) (leb (length ds) 9) two);
       most = leb-true (length ds) 9 (and-right (leb 1 (length ds)) (leb (length ds) 9) two);
-      says = e;
     }
 
+pub numeral-digits : {ds : List ℕ} {n : ℕ} → Numeral ds n → all isDigit ds ≡ true
+numeral-digits m = digits-complete (m .digits) .0
+
+pub numeral-says : {ds : List ℕ} {n : ℕ} → Numeral ds n → numeral ds ≡ n
+numeral-says m = digits-complete (m .digits) .1
+
 pub numeral-complete : {ds : List ℕ} {n : ℕ} → Numeral ds n → isNumeral ds ≡ true
-numeral-complete {ds} m = rw (m .digits, le-leb 1 (length ds) (m .some), le-leb (length ds) 9 (m .most))
+numeral-complete {ds} m = rw (numeral-digits m, le-leb 1 (length ds) (m .some), le-leb (length ds) 9 (m .most))
 
 pub word-of-numeral : {ds : List ℕ} {n : ℕ} → Numeral ds n → Word isBlank ds
 word-of-numeral {ds} m =
-    record { some = m .some; none = any-of-all isDigit isBlank ds (λ b h. not-blank b (omega (arith, digit-above b h))) (m .digits) }
+    record { some = m .some; none = any-of-all isDigit isBlank ds (λ b h. not-blank b (omega (arith, digit-above b h))) (numeral-digits m) }
 
 -- ---- tokens
 
@@ -112,8 +118,8 @@ pub entry-complete : {w : List ℕ} {l : ℤ} → Token w l → entryOf w ≡ so
 unfolding entryOf
 entry-complete (plain {ds = []} m) = absurd (omega (arith, m .some))
 entry-complete (plain {ds = b ∷ bs} {n} m) =
-    rw (ne-eqb b 45 (omega (arith, digit-above b (and-left (isDigit b) (all isDigit bs) (m .digits)))), numeral-complete m, m .says)
-entry-complete (minus m) = rw (numeral-complete m, m .says)
+    rw (ne-eqb b 45 (omega (arith, digit-above b (and-left (isDigit b) (all isDigit bs) (numeral-digits m)))), numeral-complete m, numeral-says m)
+entry-complete (minus m) = rw (numeral-complete m, numeral-says m)
 
 pub entry-none : (w : List ℕ) → ((l : ℤ) → Token w l → ⊥) → entryOf w ≡ none
 entry-none w f = none-of-not (entryOf w) (λ l e. f l (entry-sound w e))
@@ -128,13 +134,13 @@ pub skipped-sound : (line : Piece) → isSkipped line ≡ true → NoLf (line .b
 skipped-sound line h n = go (line .bytes) h n
   where
     other : (b : ℕ) (bs : List ℕ) (t : Bool) → eqb b 99 ≡ t → (t || all isBlank (b ∷ bs)) ≡ true → NoLf (b ∷ bs) → Skipped (b ∷ bs)
-    other b bs true e q n = rw (eqb-true b 99 e) (comment (record { none = or-right (isLf b) (any isLf bs) (n .none) }))
-    other b bs false e q n = blanks (record { each = q }) n
+    other b bs true e q n = rw (eqb-true b 99 e) (comment (noLf-sound bs (or-right (isLf b) (any isLf bs) (noLf-complete n))))
+    other b bs false e q n = blanks (blanks-sound (b ∷ bs) q) n
 
     go : (bs : List ℕ) → (isComment bs || all isBlank bs) ≡ true → NoLf bs → Skipped bs
-    go [] q n = blanks (record { each = refl }) n
+    go [] q n = blanks (blanks-sound [] refl) n
     go (b ∷ bs) q n = other b bs (eqb b 99) refl q n
 
 pub skipped-complete : {bs : List ℕ} (at : ℕ) → Skipped bs → isSkipped (record { at = at; bytes = bs }) ≡ true
-skipped-complete at (blanks {bs} h n) = rw (h .each) (or-true (isComment bs))
+skipped-complete at (blanks {bs} h n) = rw (blanks-complete h) (or-true (isComment bs))
 skipped-complete at (comment n) = refl

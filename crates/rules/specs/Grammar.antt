@@ -1,24 +1,34 @@
 -- DIMACS CNF as docs/RULES.md, "The text", gives it, as a grammar: what a text is, and not how it is read. specs/Reading.antt reads; that both
 -- agree is a theorem. Assumes nothing.
-use mathlib.Core.Path.{_≡_}
-use mathlib.Core.Bool.{true, false}
 use mathlib.Core.List.{List, [], _∷_, _++_}
-use Prim.Native.Nat.{ℕ, zero, suc, _≤_}
+use Prim.Native.Nat.{ℕ, suc, _+_, _*_, _≤_}
 use lib.IntN.{ℤ, pos, negsuc}
 use lib.ListN.{length}
-use Rattle.rules.specs.Lists.{In, any, all}
+use Rattle.rules.specs.Lists.{In}
 use Rattle.rules.specs.Numbers.{maxText, maxVars, maxClauses, maxEntries}
 use Rattle.rules.specs.Meaning.{varOf}
-use Rattle.rules.specs.Text.{isLf, isGap, isBlank, isDigit, numeral}
-use Rattle.rules.specs.Reading.{isZero}
 
--- ---- lines before the header, each with its LF
+-- ---- bytes
 
-pub record NoLf (bs : List ℕ) : Type 0 where
-  pub none : any isLf bs ≡ false
+pub data IsBlank : ℕ → Type 0 where
+  space : IsBlank 32
+  tab : IsBlank 9
+  cr : IsBlank 13
+  lf : IsBlank 10
+
+-- between the words of the header
+pub data IsGap : ℕ → Type 0 where
+  space : IsGap 32
+  tab : IsGap 9
 
 pub record Blanks (bs : List ℕ) : Type 0 where
-  pub each : all isBlank bs ≡ true
+  pub each : (b : ℕ) → In b bs → IsBlank b
+
+-- one line, or a part of one
+pub record NoLf (bs : List ℕ) : Type 0 where
+  pub none : In 10 bs → ⊥
+
+-- ---- lines before the header, each with its LF
 
 pub data Skipped : List ℕ → Type 0 where
   blanks : {bs : List ℕ} → Blanks bs → NoLf bs → Skipped bs
@@ -33,14 +43,18 @@ pub data Before : List ℕ → Type 0 where
 -- one or more spaces or tabs
 pub record Gap (bs : List ℕ) : Type 0 where
   pub some : 1 ≤ length bs
-  pub each : all isGap bs ≡ true
+  pub each : (b : ℕ) → In b bs → IsGap b
+
+-- digits, from 48 to 57, that say n: one more behind makes ten times as much, and the digit
+pub data Digits : List ℕ → ℕ → Type 0 where
+  no-digits : Digits [] 0
+  digit-behind : {ds : List ℕ} {n : ℕ} (d : ℕ) → Digits ds n → d ≤ 9 → Digits (ds ++ (48 + d) ∷ []) (10 * n + d)
 
 -- 1 to 9 digits that say n
 pub record Numeral (ds : List ℕ) (n : ℕ) : Type 0 where
-  pub digits : all isDigit ds ≡ true
+  pub digits : Digits ds n
   pub some : 1 ≤ length ds
   pub most : length ds ≤ 9
-  pub says : numeral ds ≡ n
 
 pub data Header : List ℕ → ℕ → ℕ → Type 0 where
   header : {g h k v c end : List ℕ} {vars clauses : ℕ} → Gap g → Gap h → Numeral v vars → Gap k → Numeral c clauses → Blanks end → NoLf end → Header (112 ∷ g ++ 99 ∷ 110 ∷ 102 ∷ h ++ v ++ k ++ c ++ end) vars clauses
@@ -54,7 +68,7 @@ pub data Token : List ℕ → ℤ → Type 0 where
 -- a token is ended by a blank or the end of text
 pub data Ended : List ℕ → Type 0 where
   at-end : Ended []
-  at-blank : {b : ℕ} {bs : List ℕ} → isBlank b ≡ true → Ended (b ∷ bs)
+  at-blank : {b : ℕ} {bs : List ℕ} → IsBlank b → Ended (b ∷ bs)
 
 pub data Body : List ℕ → List ℤ → Type 0 where
   blanks : {bs : List ℕ} → Blanks bs → Body bs []
@@ -69,7 +83,7 @@ pub data Text : List ℕ → ℕ → ℕ → List ℤ → Type 0 where
 
 pub data ClausesOf : ℕ → List ℤ → Type 0 where
   no-clause : ClausesOf 0 []
-  clause : {n : ℕ} (cl : List ℤ) {es : List ℤ} → any isZero cl ≡ false → ClausesOf n es → ClausesOf (suc n) (cl ++ pos 0 ∷ es)
+  clause : {n : ℕ} (cl : List ℤ) {es : List ℤ} → (In (pos 0) cl → ⊥) → ClausesOf n es → ClausesOf (suc n) (cl ++ pos 0 ∷ es)
 
 -- ---- a text that says the entries es over V variables in C clauses, within the sizes
 

@@ -1,0 +1,200 @@
+-- The edges of docs/RULES.md, "Sizes" and "What comes back", computed: the last size that passes and the first one that is refused, each
+-- number with its place, and which of two refusals comes first. One table for texts and one for runs.
+--
+--   text-edges        what a reading returns
+--   entry-order       the order at the 4,097th entry
+--   run-edges         what a run is refused with
+--
+-- Assumes nothing.
+use mathlib.Core.Path.{_≡_, refl}
+use mathlib.Core.Bool.{Bool, true, _&&_}
+use mathlib.Core.List.{List, [], _∷_, _++_}
+use mathlib.Core.Option.{Option, none, some}
+use Prim.Native.Nat.{ℕ, zero, suc}
+use Prim.Native.String.{String}
+use lib.Dec.{eqb}
+use lib.IntN.{ℤ, pos}
+use lib.ListN.{replicate}
+use Rattle.rules.specs.declared.ReadAnswer.{ReadAnswer}
+use Rattle.rules.specs.declared.RunAnswer.{RunAnswer}
+use Rattle.rules.specs.declared.Reading.{Reading}
+use Rattle.rules.specs.Lists.{all, eqs}
+use Rattle.rules.specs.Numbers.{readNumber, readPlace, runNumber, runPlace}
+use Rattle.rules.specs.Text.{linesOf, tokensFrom, numeral, headerOf, entryOf}
+use Rattle.rules.specs.Reading.{Judged, refused, judge, judgeTokens, judgeLines, readingOf}
+use Rattle.rules.specs.Answer.{refusalOf}
+use Rattle.rules.proofs.Quoted.{quoted}
+use Rattle.rules.proofs.Starred.{neg, clause, unit}
+
+-- ---- texts
+
+-- the entries that are lent, a text, and the five numbers that a reading returns
+pub record TextEdge : Type 0 where
+  pub room : ℕ
+  pub text : List ℕ
+  pub returned : List ℕ
+
+abbrev numbersOf : Reading → List ℕ
+numbersOf r = readNumber (r .answer) ∷ readPlace (r .answer) ∷ r .vars ∷ r .clauses ∷ r .entries ∷ []
+
+abbrev pub text-passes : TextEdge → Bool
+text-passes t = eqs (numbersOf (readingOf (t .text) (replicate (t .room) (pos 7)))) (t .returned)
+
+abbrev with-room : ℕ → List ℕ → List ℕ → TextEdge
+with-room n text ns = record { room = n; text = text; returned = ns }
+
+-- the buffer is just long enough
+abbrev reads : List ℕ → List ℕ → TextEdge
+reads text ns = with-room 4096 text ns
+
+-- number and place
+abbrev refuses : ℕ → ℕ → List ℕ
+refuses n p = n ∷ p ∷ 0 ∷ 0 ∷ 0 ∷ []
+
+-- V, C and the entry count
+abbrev accepts : ℕ → ℕ → ℕ → List ℕ
+accepts v c n = 0 ∷ 0 ∷ v ∷ c ∷ n ∷ []
+
+abbrev times : ℕ → List ℕ → List ℕ
+times zero bs = []
+times (suc n) bs = bs ++ times n bs
+
+-- `p cnf 1 1`, LF, and n literals, each with a space behind
+abbrev ones : ℕ → List ℕ
+ones n = quoted "p cnf 1 1\n" ++ times n (quoted "1 ")
+
+abbrev pub textEdges : List TextEdge
+textEdges =
+    -- 1: the buffer
+    with-room 4095 (quoted "p cnf 0 0") (refuses 1 0) ∷
+    with-room 4096 (quoted "p cnf 0 0") (accepts 0 0 0) ∷
+    with-room 4097 (quoted "p cnf 0 0") (accepts 0 0 0) ∷
+    -- 2: a text of 32,768 bytes and one of 32,769; 1 before it
+    reads (times 32758 (quoted "c") ++ quoted "\np cnf 0 0") (accepts 0 0 0) ∷
+    reads (times 32759 (quoted "c") ++ quoted "\np cnf 0 0") (refuses 2 32768) ∷
+    with-room 4095 (times 32769 (quoted "c")) (refuses 1 0) ∷
+    -- 3: no header, at the end of text; another line, at its start
+    reads [] (refuses 3 0) ∷
+    reads (quoted "c\n") (refuses 3 2) ∷
+    reads (quoted "c\n x\n") (refuses 3 2) ∷
+    reads (quoted "c\n \t\r\np cnf 1\n") (refuses 3 6) ∷
+    -- 4, at the start of the header line; 3 before it
+    reads (quoted "p cnf 256 0") (accepts 256 0 0) ∷
+    reads (quoted "p cnf 257 0") (refuses 4 0) ∷
+    reads (quoted "p cnf 0 1025") (refuses 4 0) ∷
+    reads (quoted "c\np cnf 257 0") (refuses 4 2) ∷
+    reads (quoted "p cnf 257 x") (refuses 3 0) ∷
+    reads (quoted "p cnf 0 1024\n" ++ times 1024 (quoted "0 ")) (accepts 0 1024 1024) ∷
+    -- 5: malformed tokens
+    reads (quoted "p cnf 1 1\n 1x 0") (refuses 5 11) ∷
+    reads (quoted "p cnf 1 1\n1 -0 0") (refuses 5 12) ∷
+    reads (quoted "p cnf 1 1\n0000000001 0") (refuses 5 10) ∷
+    reads (quoted "p cnf 1 1\n000000001 -01 00") (accepts 1 1 3) ∷
+    -- 6, and 5 before it
+    reads (quoted "p cnf 1 1\n1 0 1") (refuses 6 14) ∷
+    reads (quoted "p cnf 1 1\n1 0 x") (refuses 5 14) ∷
+    -- 7, and 6 before it
+    reads (quoted "p cnf 1 1\n1 -2 0") (refuses 7 12) ∷
+    reads (quoted "p cnf 1 1\n1 0 2") (refuses 6 14) ∷
+    -- 8
+    reads (ones 4095 ++ quoted "0") (accepts 1 1 4096) ∷
+    reads (ones 4096 ++ quoted "0") (refuses 8 8202) ∷
+    -- 9: inside a clause, before C clauses
+    reads (quoted "p cnf 1 1\n1\n") (refuses 9 12) ∷
+    reads (quoted "p cnf 1 2\n1 0\n") (refuses 9 14) ∷
+    reads (quoted "p cnf 0 1024") (refuses 9 12) ∷
+    []
+
+pub text-edges : all text-passes textEdges ≡ true
+unfolding readingOf judge linesOf judgeLines headerOf numeral tokensFrom judgeTokens entryOf
+text-edges = refl
+
+-- 8, and 5, 6 and 7 before it: the last token of such a text behind 4,096 entries, with k clauses complete
+abbrev entry-4097 : ℕ → String → Judged
+entry-4097 k s = judgeTokens (record { vars = 1; clauses = 1 }) 8203 k 4096 (tokensFrom 8202 (quoted s))
+
+pub entry-order : (entry-4097 0 "1" ≡ refused (ReadAnswer.EntryOver 8202)) × (entry-4097 0 "x" ≡ refused (ReadAnswer.BadToken 8202)) × (entry-4097 1 "1" ≡ refused (ReadAnswer.TokenAfterLast 8202)) × (entry-4097 0 "2" ≡ refused (ReadAnswer.VariableAbove 8202))
+unfolding tokensFrom judgeTokens entryOf numeral
+entry-order = (refl, refl, refl, refl)
+
+-- ---- runs
+
+-- V, chunk limit, entries, the status bytes and log numbers that are lent; then number and place, 0 and 0 where the run begins
+pub record RunEdge : Type 0 where
+  pub vars : ℕ
+  pub limit : ℕ
+  pub entries : List ℤ
+  pub status : ℕ
+  pub log : ℕ
+  pub number : ℕ
+  pub place : ℕ
+
+abbrev refusedBy : Option RunAnswer → ℕ → ℕ → Bool
+refusedBy none n p = eqb 0 n && eqb 0 p
+refusedBy (some a) n p = eqb (runNumber a) n && eqb (runPlace a) p
+
+abbrev pub run-passes : RunEdge → Bool
+run-passes e =
+    refusedBy
+    (refusalOf (record {
+      entries = e .entries;
+      vars = e .vars;
+      budget = 100;
+      limit = e .limit;
+      status = replicate (e .status) 7;
+      log = replicate (e .log) 7;
+    }))
+    (e .number)
+    (e .place)
+
+-- the buffers
+abbrev lends : ℕ → ℕ → ℕ → ℕ → List ℤ → ℕ → ℕ → RunEdge
+lends v l s g es n p = record { vars = v; limit = l; entries = es; status = s; log = g; number = n; place = p }
+
+-- a list over one variable
+abbrev runs : List ℤ → ℕ → ℕ → RunEdge
+runs es n p = lends 1 2 1 12 es n p
+
+abbrev pub runEdges : List RunEdge
+runEdges =
+    -- 10: 257 variables, chunk limit 0 or 257
+    lends 256 256 256 1542 [] 0 0 ∷
+    lends 257 2 257 1548 [] 10 0 ∷
+    lends 0 1 0 6 [] 0 0 ∷
+    lends 0 0 0 6 [] 10 0 ∷
+    lends 0 257 0 6 [] 10 0 ∷
+    -- 1: a status byte or a log number too few
+    lends 256 2 255 1542 [] 1 0 ∷
+    lends 256 2 256 1541 [] 1 0 ∷
+    lends 1 2 2 13 [] 0 0 ∷
+    -- 11: the 4,097th entry; no 0 at the end; the 1,025th zero
+    runs (clause (replicate 4095 (pos 1))) 0 0 ∷
+    runs (clause (replicate 4096 (pos 1))) 11 4096 ∷
+    runs (pos 1 ∷ []) 11 1 ∷
+    runs (unit (pos 1) ++ pos 1 ∷ neg 1 ∷ []) 11 4 ∷
+    runs (replicate 1024 (pos 0)) 0 0 ∷
+    runs (replicate 1025 (pos 0)) 11 1024 ∷
+    runs (unit (pos 1) ++ replicate 1024 (pos 0)) 11 1025 ∷
+    -- 12: a variable above V, and the least number of 32 bits
+    runs (unit (pos 1) ++ unit (neg 1)) 0 0 ∷
+    runs (unit (pos 1) ++ unit (pos 2) ++ unit (pos 3)) 12 2 ∷
+    runs (clause (pos 1 ∷ neg 2 ∷ [])) 12 1 ∷
+    runs (unit (neg 2147483648)) 12 0 ∷
+    lends 0 2 0 6 (unit (pos 1)) 12 0 ∷
+    lends 256 2 256 1542 (clause (pos 256 ∷ neg 256 ∷ neg 257 ∷ [])) 12 2 ∷
+    -- 10 before 1, 1 before 11, 11 before 12
+    lends 257 2 0 0 [] 10 0 ∷
+    lends 1 0 0 0 (pos 2 ∷ []) 10 0 ∷
+    lends 1 2 0 12 (pos 2 ∷ []) 1 0 ∷
+    lends 1 2 1 11 (unit (pos 2)) 1 0 ∷
+    runs (pos 2 ∷ []) 11 1 ∷
+    runs (unit (pos 2) ++ replicate 1024 (pos 0)) 11 1025 ∷
+    -- within 11: too long, then not ended, then a zero too many
+    runs (replicate 4097 (pos 0)) 11 4096 ∷
+    runs (replicate 4097 (pos 1)) 11 4096 ∷
+    runs (replicate 1025 (pos 0) ++ pos 1 ∷ []) 11 1026 ∷
+    []
+
+pub run-edges : all run-passes runEdges ≡ true
+unfolding refusalOf
+run-edges = refl
