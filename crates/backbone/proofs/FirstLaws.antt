@@ -3,28 +3,28 @@
 --   copied-whole      all of one list put over another of its length
 --   shows-begun, ready-begun     cleared buffers show a run that has begun, and there is room for its first row
 --   formula-ready, first-called     what the first call needs, and what its end says
---   done              a run that has ended as the state and the buffers show is done
+--   done              a run that has ended is done
 --   done-at-once      the first call found no model, or was stopped
 --   first-at, run-from-model     the first call found a model
 --
 -- Assumes nothing.
 use mathlib.Core.Path.{_≡_, refl, sym, _∙_, ap}
 use mathlib.Core.Logic.{_≢_}
-use mathlib.Core.List.{List, [], _∷_, _++_, append-nil}
+use mathlib.Core.List.{List, [], _++_, append-nil}
 use Prim.Native.Nat.{ℕ, _+_, _-_, _*_, _≤_}
 use native.Mathlib.Omega.{arith}
 use lib.IntN.{ℤ}
 use lib.ListN.{length, take, drop, replicate, length-replicate, drop-of-length-le}
-use lib.Seq.{sets, take-all}
+use lib.Seq.{take-all}
 use Rattle.rules.specs.declared.Outcome.{Outcome}
 use Rattle.rules.specs.declared.RunAnswer.{RunAnswer}
 use Rattle.rules.specs.declared.Report.{Report}
-use Rattle.rules.specs.Numbers.{outcomeNumber, maxVars}
+use Rattle.rules.specs.Numbers.{maxVars}
 use Rattle.rules.specs.Meaning.{Values, clauses}
 use Rattle.rules.specs.Search.{Call, model, callOn}
-use Rattle.rules.specs.Run.{blank, Task, Progress, Ended, begun, afterModel, firstCall, onFirst, chunks, run}
+use Rattle.rules.specs.Run.{blank, Task, Ended, endedBy, begun, afterModel, afterNone, afterStop, firstCall, onFirst, chunks, run}
 use Rattle.rules.specs.Trace.{Reached, first-model}
-use Rattle.rules.specs.Answer.{logLength, reportOfRun}
+use Rattle.rules.specs.Answer.{logLength}
 use Rattle.rules.proofs.LogLaws.{blank-counts}
 use Rattle.formula.specs.Starts.{callClauses}
 use Rattle.formula.proofs.ClauseLaws.{callClauses-formula}
@@ -32,10 +32,10 @@ use Rattle.search.specs.declared.call.CallEnd.{CallEnd}
 use Rattle.search.specs.Calls.{CallReady, CallEnds}
 use Rattle.chunks.specs.declared.step.State.{State}
 use Rattle.steps.specs.Flip.{Formula}
-use Rattle.chunks.specs.Step.{Shows, StepReady}
+use Rattle.chunks.specs.Step.{Shows, EndsAt, StepReady}
 use Rattle.chunks.specs.Calls.{At}
-use Rattle.backbone.specs.First.{answerOf, endOf, Cleared, RunDone}
-use Rattle.chunks.proofs.StepLaws.{shows-row}
+use Rattle.backbone.specs.First.{endOf, Cleared, started, OneRow, RunDone}
+use Rattle.chunks.proofs.StepLaws.{shows-row, ends-shown}
 
 -- ---- the first model is kept
 
@@ -45,9 +45,6 @@ copied-whole xs ys e f =
     ap (λ (ts : List ℕ). xs ++ ts) (drop-of-length-le ys {i = length xs} (omega (arith, e))) ∙ append-nil xs
 
 -- ---- before the first call
-
-abbrev pub started : ℕ → State
-started vars = record { size = 1; left = vars; calls = 0; tries = 0; free = 0; forced = 0 }
 
 module _ {status log : List ℕ} (w : Cleared status log) where
   pub log-len : length log ≡ logLength (length status)
@@ -100,27 +97,19 @@ module _ {es : List ℤ} {starts : List ℕ} {count n : ℕ} (f : Formula n es s
 
 -- ---- the run by its end
 
-pub done : {k : Task} {e : Ended} {a : RunAnswer} {s : State} {first status log : List ℕ} → run k ≡ e → a ≡ e .answer → Shows (k .vars) (e .progress) s first status log → RunDone k (record { answer = a; calls = s .calls; tries = s .tries; forced = s .forced; free = s .free }) status log
-done {k} {e} {a} {s} q h w =
-    record {
-      result-is = same ∙ ap reportOfRun (sym q);
-      status-is = w .status-is ∙ ap (λ (d : Ended). d .progress .statuses) (sym q);
-      log-is = w .log-is ∙ ap (λ (d : Ended). Rattle.rules.specs.Answer.logOfRows (k .vars) (d .progress .rows)) (sym q);
-    }
-  where
-    same : _≡_ {A = Report} (record { answer = a; calls = s .calls; tries = s .tries; forced = s .forced; free = s .free }) (reportOfRun e)
-    same = cc (h, w .calls-is, w .tries-is, w .forced-is, w .free-is)
+pub done : (k : Task) {e : Ended} {r : Report} {status log : List ℕ} → run k ≡ e → EndsAt (k .vars) e r status log → RunDone k r status log
+done k q w = rw q w
 
 run-first : (k : Task) (c : Call) → firstCall k ≡ c → run k ≡ onFirst c k
 unfolding run
 run-first k c e = ap (λ (d : Call). onFirst d k) e
 
-pub done-at-once : (k : Task) (o : Outcome) (t : ℕ) {status log log′ : List ℕ} → Cleared status log → k .vars ≡ length status → firstCall k ≡ endOf o t → o ≢ Outcome.Model → log′ ≡ sets log 0 (1 ∷ outcomeNumber o ∷ 0 ∷ 0 ∷ 0 ∷ (t - 0) ∷ []) → RunDone k (record { answer = answerOf o; calls = 1; tries = t; forced = 0; free = 0 }) status log′
-done-at-once k Outcome.Model t w v e h l = absurd (h refl)
-done-at-once k Outcome.NoModel t w v e h l =
-    done (run-first k _ e) refl (shows-row k (begun k []) (started (k .vars)) (shows-begun w k [] v refl refl) (omega (arith, log-len w, v)) Outcome.NoModel 0 t l)
-done-at-once k Outcome.Stopped t w v e h l =
-    done (run-first k _ e) refl (shows-row k (begun k []) (started (k .vars)) (shows-begun w k [] v refl refl) (omega (arith, log-len w, v)) Outcome.Stopped 0 t l)
+pub done-at-once : (k : Task) (o : Outcome) (t : ℕ) {status log log′ : List ℕ} {r : Report} → Cleared status log → k .vars ≡ length status → firstCall k ≡ endOf o t → o ≢ Outcome.Model → OneRow o t log r log′ → RunDone k r status log′
+done-at-once k Outcome.Model t w v e h x = absurd (h refl)
+done-at-once k Outcome.NoModel t w v e h x =
+    done k (run-first k _ e) (ends-shown (endedBy RunAnswer.NoModel (afterNone (begun k []) 0 t)) (x .result-is) (shows-row k (begun k []) (started (k .vars)) (shows-begun w k [] v refl refl) (omega (arith, log-len w, v)) Outcome.NoModel 0 t (x .log-is)))
+done-at-once k Outcome.Stopped t w v e h x =
+    done k (run-first k _ e) (ends-shown (endedBy RunAnswer.Stopped (afterStop (begun k []) 0 t)) (x .result-is) (shows-row k (begun k []) (started (k .vars)) (shows-begun w k [] v refl refl) (omega (arith, log-len w, v)) Outcome.Stopped 0 t (x .log-is)))
 
 pub reached-first : (k : Task) (m : Values) (t : ℕ) → firstCall k ≡ model m t → {size : ℕ} → size ≡ 1 → Reached k size (afterModel k (begun k m) 0 m t)
 reached-first k m t e z = rw z (first-model m t e)

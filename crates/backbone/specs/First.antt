@@ -1,6 +1,5 @@
 -- The first call of a run as code makes it, and the run when it is done. Assumes nothing.
 use mathlib.Core.Path.{_≡_}
-use mathlib.Core.Bool.{true}
 use mathlib.Core.List.{List}
 use Prim.Native.Nat.{ℕ, _≤_}
 use lib.IntN.{ℤ}
@@ -14,7 +13,9 @@ use Rattle.rules.specs.Numbers.{maxVars, maxClauses, maxEntries, maxChunk}
 use Rattle.rules.specs.Meaning.{varOf}
 use Rattle.rules.specs.Reading.{isZero}
 use Rattle.rules.specs.Run.{Task, run}
-use Rattle.rules.specs.Answer.{logLength, isEnded, reportOfRun, logOfRows}
+use Rattle.rules.specs.Answer.{logLength}
+use Rattle.chunks.specs.declared.step.State.{State}
+use Rattle.chunks.specs.Step.{EndsAt, rowPut}
 
 -- the answer of a run whose first call found no model; after a model it is not asked for
 abbrev pub answerOf : Outcome → RunAnswer
@@ -33,11 +34,18 @@ pub record Cleared (status log : List ℕ) : Type 0 where
   pub status-is : status ≡ replicate (length status) 0
   pub log-is : log ≡ replicate (logLength (length status)) 0
 
+-- before the first call
+abbrev pub started : ℕ → State
+started vars = record { size = 1; left = vars; calls = 0; tries = 0; free = 0; forced = 0 }
+
+-- the first call found no model, or was stopped: one row, and what the run returns
+pub record OneRow (o : Outcome) (spent : ℕ) (log : List ℕ) (result : Report) (log-after : List ℕ) : Type 0 where
+  pub result-is : result ≡ record { answer = answerOf o; calls = 1; tries = spent; forced = 0; free = 0 }
+  pub log-is : log-after ≡ rowPut log (started 0) o 0 0 0 spent
+
 -- the run is done: what it returns, its statuses and its log
-pub record RunDone (k : Task) (result : Report) (status log : List ℕ) : Type 0 where
-  pub result-is : result ≡ reportOfRun (run k)
-  pub status-is : status ≡ run k .progress .statuses
-  pub log-is : log ≡ logOfRows (k .vars) (run k .progress .rows)
+abbrev pub RunDone : Task → Report → List ℕ → List ℕ → Type 0
+RunDone k result status log = EndsAt (k .vars) (run k) result status log
 
 -- what no rule refuses, with buffers of just the size
 pub record Listing (es : List ℤ) (limit : ℕ) (status log : List ℕ) : Type 0 where

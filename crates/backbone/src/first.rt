@@ -1,17 +1,14 @@
 // The first call of a run (docs/RULES.md, "Run"), on the formula alone, and what follows from it.
 ghost use mathlib.Core.Path.{_≡_};
-ghost use mathlib.Core.List.{List};
-ghost use lib.IntN.{ℤ};
-ghost use Prim.Native.Nat.{ℕ, _≤_};
+ghost use Prim.Native.Nat.{_≤_};
 ghost use lib.ListN.{length};
-ghost use mathlib.Core.Logic.{_≢_};
-ghost use Rattle.rules.specs.declared.Outcome.{Outcome};
 ghost use Rattle.rules.specs.Search.{model};
 ghost use Rattle.rules.specs.Run.{firstCall};
 ghost use Rattle.rules.specs.Numbers.{maxChunk};
+ghost use Rattle.search.specs.Calls.{valuesAfter};
 ghost use Rattle.steps.specs.Flip.{Formula};
 ghost use Rattle.chunks.specs.Calls.{Ready, task};
-ghost use Rattle.backbone.specs.First.{Cleared, RunDone, Listing, answerOf, endOf};
+ghost use Rattle.backbone.specs.First.{Cleared, OneRow, RunDone, Listing, answerOf};
 
 // The answer of a run whose first call found no model.
 fn answer_of(outcome: rules::Outcome) -> rules::RunAnswer
@@ -25,9 +22,9 @@ fn answer_of(outcome: rules::Outcome) -> rules::RunAnswer
 }
 
 // The first call found no model, or was stopped: one row, and all variables stay open.
-fn one_row(status: &[u8], log: &mut [u32], outcome: rules::Outcome, spent: u32) -> rules::Report
-    requires { ⌜ Cleared (now status) (now log) × (length (now status) ≤ 256) ⌝ }
-    ensures { λ r. ⌜ ((es : List ℤ) (budget limit : ℕ) → firstCall (task es (length (now (status .entry))) budget limit) ≡ endOf outcome spent → outcome ≢ Outcome.Model → RunDone (task es (length (now (status .entry))) budget limit) r (now (status .entry)) (now (log .exit))) ⌝ }
+fn one_row(log: &mut [u32], outcome: rules::Outcome, spent: u32) -> rules::Report
+    requires { ⌜ 6 ≤ length (now log) ⌝ }
+    ensures { λ r. ⌜ OneRow outcome spent (now (log .entry)) r (now (log .exit)) ⌝ }
 {
     steps::row::put_row(
         log,
@@ -64,7 +61,7 @@ fn first_model(
     spent: u32,
 ) -> rules::Report
     requires { ⌜ Ready (task (now entries) (length (now status)) budget limit) (now entries) (now starts) count (now status) (now values) × Cleared (now status) (now log) × (length (now first) ≡ length (now status)) × (firstCall (task (now entries) (length (now status)) budget limit) ≡ model (now values) spent) ⌝ }
-    ensures { λ r. ⌜ RunDone (task (now (entries .entry)) (length (now (status .entry))) budget limit) r (now (status .exit)) (now (log .exit)) ⌝ }
+    ensures { λ r. ⌜ RunDone (task (now (entries .entry)) (length (now (status .entry))) budget limit) r (now (status .exit)) (now (log .exit)) × (now (first .exit) ≡ now (values .entry)) ⌝ }
 {
     search::values::copy_first(values, first, values.len());
     let n = values.len() as u32;
@@ -87,7 +84,7 @@ fn first_model(
         0,
         spent,
     );
-    let end = chunks::calls::run_chunks(
+    chunks::calls::run_chunks(
         entries,
         starts,
         count,
@@ -98,16 +95,7 @@ fn first_model(
         s,
         budget,
         limit,
-    );
-    let state = end.state;
-    let answer = end.answer;
-    rules::Report {
-        answer: answer,
-        calls: state.calls,
-        tries: state.tries,
-        forced: state.forced,
-        free: state.free,
-    }
+    )
 }
 
 // The first call, from no value, on the formula alone, and the run that follows from it.
@@ -123,7 +111,7 @@ fn first_call(
     limit: u32,
 ) -> rules::Report
     requires { ⌜ Ready (task (now entries) (length (now status)) budget limit) (now entries) (now starts) count (now status) (now values) × Cleared (now status) (now log) × (length (now first) ≡ length (now status)) ⌝ }
-    ensures { λ r. ⌜ RunDone (task (now (entries .entry)) (length (now (status .entry))) budget limit) r (now (status .exit)) (now (log .exit)) ⌝ }
+    ensures { λ r. ⌜ RunDone (task (now (entries .entry)) (length (now (status .entry))) budget limit) r (now (status .exit)) (now (log .exit)) × (now (first .exit) ≡ valuesAfter (firstCall (task (now (entries .entry)) (length (now (status .entry))) budget limit)) (now (first .entry))) ⌝ }
 {
     steps::buffer::clear_bytes(values);
     let end = search::call::go_on(
@@ -153,8 +141,8 @@ fn first_call(
             limit,
             spent,
         ),
-        rules::Outcome::NoModel => one_row(status, log, rules::Outcome::NoModel, spent),
-        rules::Outcome::Stopped => one_row(status, log, rules::Outcome::Stopped, spent),
+        rules::Outcome::NoModel => one_row(log, rules::Outcome::NoModel, spent),
+        rules::Outcome::Stopped => one_row(log, rules::Outcome::Stopped, spent),
     }
 }
 

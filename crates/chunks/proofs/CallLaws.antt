@@ -4,46 +4,40 @@
 --   chunk-ready       what `go_on` needs
 --   chunk-clauses     the clauses of the call, and its end by them
 --   ends-model, ends-none, ends-stopped     the call, by what it ended with
---   step-model, step-none, step-stop        the run goes on, or stops there
+--   call-next         what comes of a call, whatever is done next
 --   size-le           a chunk size is within the limit
 --   step-ready        there is room for one row more, and no count is out of range
 --
 -- Assumes nothing.
-use mathlib.Core.Path.{_≡_, refl, sym, _∙_, ap}
-use mathlib.Core.Logic.{_≢_}
-use mathlib.Core.List.{List, [], _∷_, _++_, map}
-use Prim.Native.Nat.{ℕ, zero, suc, _+_, _-_, _*_, _≤_, _<_, min}
+use mathlib.Core.Path.{_≡_, sym, _∙_, ap}
+use mathlib.Core.List.{List, [], _∷_, _++_}
+use Prim.Native.Nat.{ℕ, zero, suc, _+_, _-_, _≤_, _<_, min}
 use native.Mathlib.Omega.{arith}
 use native.Mathlib.Numerals.{add-one}
-use native.Mathlib.Nat.{zero-add}
 use lib.IntN.{ℤ}
-use lib.ListN.{length, getD, take, drop, List·getD-eq-default}
+use lib.ListN.{length, getD, take}
 use Rattle.rules.specs.declared.Outcome.{Outcome}
-use Rattle.rules.specs.declared.RunAnswer.{RunAnswer}
 use Rattle.rules.specs.Lists.{In, count}
 use Rattle.rules.specs.Numbers.{maxVars}
 use Rattle.rules.specs.Meaning.{Clause, Values, varOf, negated, clauses, LitUpTo}
-use Rattle.rules.specs.Search.{Call, model, no-model, stopped, outcomeOf, triesOf, callOn}
-use Rattle.rules.specs.Run.{Task, Progress, statusAt, opens, isOpen, literalAt, candidatesFrom, constraint, chunkOf, chunkCall, forcedValues, afterModel, afterNone, afterStop, Ended, endedBy, onOpen, chunks}
+use Rattle.rules.specs.Search.{Call, model, no-model, stopped, outcomeOf, triesOf}
+use Rattle.rules.specs.Run.{Task, Progress, statusAt, opens, candidatesFrom, constraint, chunkCall, Ended, onCall, onOpen}
 use Rattle.rules.specs.Trace.{Reached, first-model, next-model, next-none}
-use Rattle.rules.specs.Answer.{isFree, isForced, logLength, logOfRows}
+use Rattle.rules.specs.Answer.{isFree, isForced}
 use Rattle.rules.proofs.ListLaws.{map-in, in-take, count-le}
 use Rattle.rules.proofs.StatusLaws.{candidate-open}
-use Rattle.rules.proofs.KnownLaws.{Known, first-model-is}
+use Rattle.rules.proofs.KnownLaws.{first-model-is}
 use Rattle.rules.proofs.RunTrace.{doubled-is, known}
-use Rattle.rules.proofs.RunNext.{chunks-next}
 use Rattle.rules.proofs.LogLaws.{calls-opens-le}
 use Rattle.formula.specs.Clauses.{ClauseUpTo}
-use Rattle.formula.specs.Starts.{startsOf, Over, callClauses}
+use Rattle.formula.specs.Starts.{callClauses}
 use Rattle.formula.proofs.ClauseLaws.{callClauses-constraint}
 use Rattle.search.specs.declared.call.CallEnd.{CallEnd}
-use Rattle.search.specs.Closings.{WellFormed}
 use Rattle.search.specs.Calls.{CallReady, CallEnds}
 use Rattle.chunks.specs.declared.step.State.{State}
-use Rattle.steps.specs.Constraint.{ConstraintPut}
 use Rattle.steps.specs.Flip.{Formula}
-use Rattle.chunks.specs.Step.{Shows, StepReady}
-use Rattle.chunks.specs.Calls.{At, Ready}
+use Rattle.chunks.specs.Step.{StepReady}
+use Rattle.chunks.specs.Calls.{At}
 use Rattle.steps.proofs.ConstraintLaws.{varOf-false}
 use Rattle.chunks.proofs.StepLaws.{length-logOfRows}
 
@@ -106,22 +100,11 @@ module _ {c : Call} {vs after : Values} {budget : ℕ} {r : CallEnd} (w : CallEn
       go (no-model t) o s = absurd (let y : _≡_ {A = ℕ} 0 1 = cc in omega arith)
       go (stopped t) o s = cc
 
--- ---- the run goes on, or stops there
+-- ---- what comes of it
 
-module _ {k : Task} {size n : ℕ} {p : Progress} (limit : 1 ≤ k .limit) (r : Reached k size p) (o : opens (p .statuses) ≡ suc n) where
-  next : {c : Call} → chunkCall k p (min size (suc n)) ≡ c → chunks k size p ≡ Rattle.rules.specs.Run.onCall c k p size (min size (suc n)) (λ s q. chunks k s q)
-  next {c} e =
-      chunks-next limit r ∙ ap (λ (j : ℕ). onOpen j k size p (λ s q. chunks k s q)) o ∙
-      ap (λ (c : Call). Rattle.rules.specs.Run.onCall c k p size (min size (suc n)) (λ s q. chunks k s q)) e
-
-  pub step-model : (m : Values) (t : ℕ) → chunkCall k p (min size (suc n)) ≡ model m t → chunks k size p ≡ chunks k 1 (afterModel k p (min size (suc n)) m t)
-  step-model m t e = next e
-
-  pub step-none : (t : ℕ) → chunkCall k p (min size (suc n)) ≡ no-model t → chunks k size p ≡ chunks k (min (size + size) (k .limit)) (afterNone p (min size (suc n)) t)
-  step-none t e = next e
-
-  pub step-stop : (t : ℕ) → chunkCall k p (min size (suc n)) ≡ stopped t → chunks k size p ≡ endedBy RunAnswer.Stopped (afterStop p (min size (suc n)) t)
-  step-stop t e = next e
+pub call-next : (k : Task) (size : ℕ) (p : Progress) {n : ℕ} → opens (p .statuses) ≡ suc n → {c : Call} → chunkCall k p (min size (suc n)) ≡ c → (next : ℕ → Progress → Ended) → onOpen (opens (p .statuses)) k size p next ≡ onCall c k p size (min size (suc n)) next
+call-next k size p {n} o e next =
+    ap (λ (j : ℕ). onOpen j k size p next) o ∙ ap (λ (c : Call). onCall c k p size (min size (suc n)) next) e
 
 pub size-le : {k : Task} {size : ℕ} {p : Progress} → 1 ≤ k .limit → Reached k size p → size ≤ k .limit
 size-le h (first-model m t e) = h

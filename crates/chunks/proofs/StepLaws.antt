@@ -3,29 +3,32 @@
 --   logOfRows-put     a row put behind the others is the log with that row
 --   length-logOfRows  its length
 --   rows-room         where there is room for a row, it is one of V + 1
---   shows-model, shows-none, shows-stop     after a model, after none, after a stop
+--   shows-model, shows-none     after a model, after none
 --   shows-row         one row more, and no status changed
+--   ends-shown        a run that has ended where the state and the buffers show it
+--   ends-stop         after a stop
 --
 -- Assumes nothing.
 use mathlib.Core.Path.{_≡_, refl, sym, _∙_, ap}
-use mathlib.Core.List.{List, [], _∷_, _++_, map, append-assoc, append-nil}
-use Prim.Native.Nat.{ℕ, zero, suc, _+_, _-_, _*_, _≤_, _<_}
+use mathlib.Core.List.{List, [], _∷_, _++_, map, append-assoc}
+use Prim.Native.Nat.{ℕ, zero, suc, _+_, _-_, _*_, _≤_}
 use native.Mathlib.Omega.{arith}
-use native.Mathlib.Numerals.{add-one}
-use lib.ListN.{length, take, drop, replicate, length-append, length-replicate}
+use lib.ListN.{length, drop, replicate, length-append, length-replicate}
 use lib.Seq.{sets, sets-eq, take-at, drop-append-add}
 use Rattle.rules.specs.declared.Outcome.{Outcome}
-use Rattle.rules.specs.Lists.{joined, count}
+use Rattle.rules.specs.declared.RunAnswer.{RunAnswer}
+use Rattle.rules.specs.declared.Report.{Report}
+use Rattle.rules.specs.Lists.{joined}
 use Rattle.rules.specs.Numbers.{outcomeNumber}
-use Rattle.rules.specs.Meaning.{Clause, Values, clauses}
-use Rattle.rules.specs.Run.{Task, Row, Progress, opens, differs, canFlip, compared, flips, filtered, modelRow, rowAfter, forceFirst, afterModel, afterNone, afterStop}
-use Rattle.rules.specs.Answer.{isFree, isForced, logLength, rowNumbers, logOfRows}
-use Rattle.rules.proofs.StatusLaws.{Freed, freed-counts, ForcedMore, forceFirst-counts}
+use Rattle.rules.specs.Meaning.{Clause, Values}
+use Rattle.rules.specs.Run.{Task, Row, Progress, opens, differs, canFlip, compared, flips, filtered, modelRow, rowAfter, forceFirst, afterModel, afterNone, afterStop, Ended, endedBy}
+use Rattle.rules.specs.Answer.{logLength, rowNumbers, logOfRows, reportOfRun}
+use Rattle.rules.proofs.StatusLaws.{Freed, freed-counts, forceFirst-counts}
 use Rattle.rules.proofs.BufferTheorems.{length-rows}
 use Rattle.chunks.specs.declared.step.State.{State}
 use Rattle.steps.specs.Filter.{Drops}
 use Rattle.steps.specs.Flip.{Flips}
-use Rattle.chunks.specs.Step.{Shows}
+use Rattle.chunks.specs.Step.{Shows, EndsAt, rowPut, doubled, ModelLeft, NoneLeft, StopLeft}
 
 -- ---- one row more
 
@@ -101,22 +104,49 @@ withRow p o chunk t =
       models = p .models;
     }
 
+-- ---- the end
+
+pub ends-shown : {vars : ℕ} (e : Ended) {s : State} {r : Report} {first status log : List ℕ} → r ≡ record { answer = e .answer; calls = s .calls; tries = s .tries; forced = s .forced; free = s .free } → Shows vars (e .progress) s first status log → EndsAt vars e r status log
+ends-shown e {s} {r} q w =
+    record { result-is = q ∙ same; status-is = w .status-is; log-is = w .log-is }
+  where
+    same : _≡_ {A = Report} (record { answer = e .answer; calls = s .calls; tries = s .tries; forced = s .forced; free = s .free }) (reportOfRun e)
+    same = cc (w .calls-is, w .tries-is, w .forced-is, w .free-is)
+
 -- ---- after a model
 
 module _ (k : Task) (p : Progress) (s : State) {first status log : List ℕ} (w : Shows (k .vars) p s first status log) (room : 6 * (s .calls + 1) ≤ length log) where
-  pub shows-model : (F : List Clause) → k .formula ≡ F → (chunk : ℕ) (m m′ : Values) (spent c f : ℕ) {after last log′ : List ℕ} → Drops (differs first m) status c after → Flips F m after f m′ last → log′ ≡ sets log (6 * s .calls) ((s .calls + 1) ∷ 1 ∷ chunk ∷ c ∷ f ∷ (spent - s .tries) ∷ []) → Shows (k .vars) (afterModel k p chunk m spent) (record { size = 1; left = s .left - c - f; calls = s .calls + 1; tries = spent; free = s .free + c + f; forced = s .forced }) first last log′
-  shows-model F e chunk m m′ spent c f {after} {last} {log′} d g l =
-      record {
-        first-is = w .first-is;
-        status-is = last-is;
-        log-is = put-is (k .vars) p s (modelRow k p chunk m spent) w room l row-is;
-        left-is = omega (arith, w .left-is, compared-opens, d .counted, g .drops .counted, ap opens last-is, ap opens status-is);
-        calls-is = omega (arith, w .calls-is, length-append (p .rows) (modelRow k p chunk m spent ∷ []));
-        tries-is = refl;
-        free-is = omega (arith, w .free-is, by-compare .free-more, by-flip .free-more, compared-opens, d .counted, g .drops .counted, ap opens last-is, ap opens status-is);
-        forced-is = w .forced-is ∙ sym (by-flip .forced-same ∙ by-compare .forced-same);
-      }
+  pub shows-model : {F : List Clause} → k .formula ≡ F → {chunk : ℕ} {m m′ : Values} {spent : ℕ} {r : State} {last log′ : List ℕ} → ModelLeft F first m status log s chunk spent r m′ last log′ → (r .size ≡ 1) × Shows (k .vars) (afterModel k p chunk m spent) r first last log′
+  shows-model {F} e {chunk} {m} {m′} {spent} {r} {last} {log′} x =
+      rw (x .result-is) (
+        refl,
+        record {
+          first-is = w .first-is;
+          status-is = last-is;
+          log-is = put-is (k .vars) p s (modelRow k p chunk m spent) w room (x .log-is) row-is;
+          left-is = omega (arith, w .left-is, compared-opens, d .counted, g .drops .counted, ap opens last-is, ap opens status-is);
+          calls-is = omega (arith, w .calls-is, length-append (p .rows) (modelRow k p chunk m spent ∷ []));
+          tries-is = refl;
+          free-is = omega (arith, w .free-is, by-compare .free-more, by-flip .free-more, compared-opens, d .counted, g .drops .counted, ap opens last-is, ap opens status-is);
+          forced-is = w .forced-is ∙ sym (by-flip .forced-same ∙ by-compare .forced-same);
+        },
+      )
     where
+      c : ℕ
+      c = x .by-compare
+
+      f : ℕ
+      f = x .by-flip
+
+      after : List ℕ
+      after = x .between
+
+      d : Drops (differs first m) status c after
+      d = x .compares
+
+      g : Flips F m after f m′ last
+      g = x .flips
+
       status-is : status ≡ p .statuses
       status-is = w .status-is
 
@@ -154,21 +184,24 @@ module _ (k : Task) (p : Progress) (s : State) {first status log : List ℕ} (w 
   calls-are : (r : Row) → s .calls + 1 ≡ length (p .rows ++ (r ∷ []))
   calls-are r = omega (arith, w .calls-is, length-append (p .rows) (r ∷ []))
 
-  pub shows-none : (chunk size spent : ℕ) {after log′ : List ℕ} → length (p .first) ≡ length (p .statuses) → chunk ≤ opens (p .statuses) → after ≡ forceFirst first status chunk → log′ ≡ sets log (6 * s .calls) ((s .calls + 1) ∷ 2 ∷ chunk ∷ 0 ∷ 0 ∷ (spent - s .tries) ∷ []) → Shows (k .vars) (afterNone p chunk spent) (record { size = size; left = s .left - chunk; calls = s .calls + 1; tries = spent; free = s .free; forced = s .forced + chunk }) first after log′
-  shows-none chunk size spent e h f l =
+  pub shows-none : {chunk limit spent : ℕ} {r : State} {after log′ : List ℕ} → length (p .first) ≡ length (p .statuses) → chunk ≤ opens (p .statuses) → NoneLeft first status log s chunk limit spent r after log′ → (r .size ≡ doubled (s .size) limit) × Shows (k .vars) (afterNone p chunk spent) r first after log′
+  shows-none {chunk} {limit} {spent} {r} e h x =
       let n = forceFirst-counts (p .first) (p .statuses) chunk e h in
-      record {
-        first-is = w .first-is;
-        status-is = f ∙ ap (λ (x : Values). forceFirst x status chunk) (w .first-is) ∙ ap (λ (ss : List ℕ). forceFirst (p .first) ss chunk) (w .status-is);
-        log-is = put-is (k .vars) p s (rowAfter p Outcome.NoModel chunk 0 0 spent) w room l (row-is Outcome.NoModel chunk spent);
-        left-is = omega (arith, w .left-is, n .opens-less);
-        calls-is = calls-are (rowAfter p Outcome.NoModel chunk 0 0 spent);
-        tries-is = refl;
-        free-is = w .free-is ∙ sym (n .free-same);
-        forced-is = omega (arith, w .forced-is, n .forced-more);
-      }
+      rw (x .result-is) (
+        refl,
+        record {
+          first-is = w .first-is;
+          status-is = x .status-is ∙ ap (λ (m : Values). forceFirst m status chunk) (w .first-is) ∙ ap (λ (ss : List ℕ). forceFirst (p .first) ss chunk) (w .status-is);
+          log-is = put-is (k .vars) p s (rowAfter p Outcome.NoModel chunk 0 0 spent) w room (x .log-is) (row-is Outcome.NoModel chunk spent);
+          left-is = omega (arith, w .left-is, n .opens-less);
+          calls-is = calls-are (rowAfter p Outcome.NoModel chunk 0 0 spent);
+          tries-is = refl;
+          free-is = w .free-is ∙ sym (n .free-same);
+          forced-is = omega (arith, w .forced-is, n .forced-more);
+        },
+      )
 
-  pub shows-row : (o : Outcome) (chunk spent : ℕ) {log′ : List ℕ} → log′ ≡ sets log (6 * s .calls) ((s .calls + 1) ∷ outcomeNumber o ∷ chunk ∷ 0 ∷ 0 ∷ (spent - s .tries) ∷ []) → Shows (k .vars) (withRow p o chunk spent) (record { size = s .size; left = s .left; calls = s .calls + 1; tries = spent; free = s .free; forced = s .forced }) first status log′
+  pub shows-row : (o : Outcome) (chunk spent : ℕ) {log′ : List ℕ} → log′ ≡ rowPut log s o chunk 0 0 spent → Shows (k .vars) (withRow p o chunk spent) (record { size = s .size; left = s .left; calls = s .calls + 1; tries = spent; free = s .free; forced = s .forced }) first status log′
   shows-row o chunk spent l =
       record {
         first-is = w .first-is;
@@ -181,5 +214,6 @@ module _ (k : Task) (p : Progress) (s : State) {first status log : List ℕ} (w 
         forced-is = w .forced-is;
       }
 
-  pub shows-stop : (chunk spent : ℕ) {log′ : List ℕ} → log′ ≡ sets log (6 * s .calls) ((s .calls + 1) ∷ 3 ∷ chunk ∷ 0 ∷ 0 ∷ (spent - s .tries) ∷ []) → Shows (k .vars) (afterStop p chunk spent) (record { size = s .size; left = s .left; calls = s .calls + 1; tries = spent; free = s .free; forced = s .forced }) first status log′
-  shows-stop = shows-row Outcome.Stopped
+  pub ends-stop : {chunk spent : ℕ} {r : Report} {log′ : List ℕ} → StopLeft log s chunk spent r log′ → EndsAt (k .vars) (endedBy RunAnswer.Stopped (afterStop p chunk spent)) r status log′
+  ends-stop {chunk} {spent} x =
+      ends-shown (endedBy RunAnswer.Stopped (afterStop p chunk spent)) (x .result-is) (shows-row Outcome.Stopped chunk spent (x .log-is))

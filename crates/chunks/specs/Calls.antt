@@ -1,20 +1,20 @@
 -- The calls of a run as code makes them. Assumes nothing.
 use mathlib.Core.Path.{_≡_}
 use mathlib.Core.List.{List}
-use Prim.Native.Nat.{ℕ, _≤_, _<_}
+use Prim.Native.Nat.{ℕ, _≤_, _<_, min}
 use lib.IntN.{ℤ}
 use lib.ListN.{length}
-use Rattle.rules.specs.declared.RunAnswer.{RunAnswer}
+use Rattle.rules.specs.declared.Report.{Report}
 use Rattle.rules.specs.Numbers.{maxChunk}
-use Rattle.rules.specs.Meaning.{clauses}
-use Rattle.rules.specs.Run.{Task, Progress, opens, Ended, endedBy, chunks}
+use Rattle.rules.specs.Meaning.{Values, clauses}
+use Rattle.rules.specs.Run.{Task, Progress, opens, forcedValues, chunkCall, Ended, onOpen}
 use Rattle.rules.specs.Trace.{Reached}
+use Rattle.search.specs.Calls.{valuesAfter}
 use Rattle.chunks.specs.declared.step.State.{State}
-use Rattle.chunks.specs.declared.calls.Ended.{Ended as EndedState}
 use Rattle.chunks.specs.declared.calls.Step.{Step}
 use Rattle.chunks.specs.declared.calls.Step.the-variants.{GoesOn, Stops}
 use Rattle.steps.specs.Flip.{Formula}
-use Rattle.chunks.specs.Step.{Shows}
+use Rattle.chunks.specs.Step.{Shows, EndsAt}
 
 -- the task of a run over as many variables as there are statuses
 abbrev pub task : List ℤ → ℕ → ℕ → ℕ → Task
@@ -35,12 +35,12 @@ pub record Ready (k : Task) (es : List ℤ) (starts : List ℕ) (count : ℕ) (s
   pub limit-some : 1 ≤ k .limit
   pub limit-fits : k .limit ≤ maxChunk
 
--- what one call makes of the run: it goes on from another progress with fewer candidates, or it stops there
+-- what one call makes of the run, whatever is done next: it goes on from another progress with fewer candidates, or it ends there
 pub data StepTo (k : Task) (size : ℕ) (p : Progress) (first : List ℕ) : Step → List ℕ → List ℕ → Type 0 where
-  goes-on : {s : State} {status log : List ℕ} (w : At k s first status log) → opens (w .progress .statuses) < opens (p .statuses) → chunks k size p ≡ chunks k (s .size) (w .progress) → StepTo k size p first (GoesOn s) status log
-  stops : {s : State} {status log : List ℕ} (q : Progress) → Shows (k .vars) q s first status log → chunks k size p ≡ endedBy RunAnswer.Stopped q → StepTo k size p first (Stops s) status log
+  goes-on : {s : State} {status log : List ℕ} (w : At k s first status log) → opens (w .progress .statuses) < opens (p .statuses) → ((next : ℕ → Progress → Ended) → onOpen (opens (p .statuses)) k size p next ≡ next (s .size) (w .progress)) → StepTo k size p first (GoesOn s) status log
+  stops : {r : Report} {status log : List ℕ} (e : Ended) → EndsAt (k .vars) e r status log → ((next : ℕ → Progress → Ended) → onOpen (opens (p .statuses)) k size p next ≡ e) → StepTo k size p first (Stops r) status log
 
--- the run has ended as e says, and the buffers and the state show its last progress
-pub record EndsAt (vars : ℕ) (e : Ended) (first : List ℕ) (result : EndedState) (status log : List ℕ) : Type 0 where
-  pub answer-is : result .answer ≡ e .answer
-  pub shows : Shows vars (e .progress) (result .state) first status log
+-- one call: what it makes of the run, and the values that it leaves, its model or the literals forced so far
+pub record Called (k : Task) (size : ℕ) (p : Progress) (first : List ℕ) (result : Step) (status log : List ℕ) (values : Values) : Type 0 where
+  pub step : StepTo k size p first result status log
+  pub values-are : values ≡ valuesAfter (chunkCall k p (min size (opens (p .statuses)))) (forcedValues (p .statuses))

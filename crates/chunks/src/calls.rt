@@ -9,7 +9,8 @@ ghost use Rattle.rules.specs.Search.{callOn};
 ghost use Rattle.rules.specs.Run.{opens, candidatesFrom, constraint, forcedValues, chunks};
 ghost use Rattle.search.specs.Calls.{CallEnds};
 ghost use Rattle.steps.specs.Flip.{Formula};
-ghost use Rattle.chunks.specs.Calls.{At, Ready, StepTo, EndsAt, task};
+ghost use Rattle.chunks.specs.Step.{EndsAt};
+ghost use Rattle.chunks.specs.Calls.{At, Ready, Called, task};
 
 // The lesser of two numbers.
 fn lesser(a: u32, b: u32) -> u32
@@ -39,10 +40,10 @@ fn chunk_call(
     search::call::go_on(entries, starts, &literals[..n], count + 1, values, meter)
 }
 
-// What comes of a call: the run goes on, or it was stopped.
+// What comes of a call: the run goes on, or it was stopped and returns.
 pub enum Step {
     GoesOn(crate::step::State),
-    Stops(crate::step::State),
+    Stops(rules::Report),
 }
 
 // One call, and what it leaves. A model is compared and flipped before the next call can write over it.
@@ -59,7 +60,7 @@ fn next_call(
     limit: u32,
 ) -> Step
     requires { ⌜ Ready (task (now entries) (length (now status)) budget limit) (now entries) (now starts) count (now status) (now values) × At (task (now entries) (length (now status)) budget limit) s (now first) (now status) (now log) × (1 ≤ s .left) ⌝ }
-    ensures { λ r. ⌜ ((w : At (task (now (entries .entry)) (length (now (status .entry))) budget limit) s (now (first .entry)) (now (status .entry)) (now (log .entry))) → StepTo (task (now (entries .entry)) (length (now (status .entry))) budget limit) (s .size) (w .progress) (now (first .entry)) r (now (status .exit)) (now (log .exit))) ⌝ }
+    ensures { λ r. ⌜ ((w : At (task (now (entries .entry)) (length (now (status .entry))) budget limit) s (now (first .entry)) (now (status .entry)) (now (log .entry))) → Called (task (now (entries .entry)) (length (now (status .entry))) budget limit) (s .size) (w .progress) (now (first .entry)) r (now (status .exit)) (now (log .exit)) (now (values .exit))) ⌝ }
 {
     let chunk = lesser(s.size, s.left);
     let end = chunk_call(
@@ -104,13 +105,8 @@ fn next_call(
     }
 }
 
-// How the calls after the first ended: settled, or stopped.
-pub struct Ended {
-    pub answer: rules::RunAnswer,
-    pub state: crate::step::State,
-}
-
-// While candidates remain, one call after the other.
+// While candidates remain, one call after the other; then what the run returns. The values are the calls' to write: nothing is said
+// of what the last one left there.
 // Rules out: one call too few; going on after a stop.
 // Required of: backbone::first::first_model, behind the first model.
 pub fn run_chunks(
@@ -124,9 +120,9 @@ pub fn run_chunks(
     s: crate::step::State,
     budget: u32,
     limit: u32,
-) -> Ended
+) -> rules::Report
     requires { ⌜ Ready (task (now entries) (length (now status)) budget limit) (now entries) (now starts) count (now status) (now values) × At (task (now entries) (length (now status)) budget limit) s (now first) (now status) (now log) ⌝ }
-    ensures { λ r. ⌜ ((w : At (task (now (entries .entry)) (length (now (status .entry))) budget limit) s (now (first .entry)) (now (status .entry)) (now (log .entry))) → EndsAt (length (now (status .entry))) (chunks (task (now (entries .entry)) (length (now (status .entry))) budget limit) (s .size) (w .progress)) (now (first .entry)) r (now (status .exit)) (now (log .exit))) ⌝ }
+    ensures { λ r. ⌜ ((w : At (task (now (entries .entry)) (length (now (status .entry))) budget limit) s (now (first .entry)) (now (status .entry)) (now (log .entry))) → EndsAt (length (now (status .entry))) (chunks (task (now (entries .entry)) (length (now (status .entry))) budget limit) (s .size) (w .progress)) r (now (status .exit)) (now (log .exit))) ⌝ }
 {
     let mut state = s;
     while 0 < state.left {
@@ -145,16 +141,16 @@ pub fn run_chunks(
             Step::GoesOn(next) => {
                 state = next;
             }
-            Step::Stops(last) => {
-                return Ended {
-                    answer: rules::RunAnswer::Stopped,
-                    state: last,
-                };
+            Step::Stops(report) => {
+                return report;
             }
         }
     }
-    Ended {
+    rules::Report {
         answer: rules::RunAnswer::Settled,
-        state: state,
+        calls: state.calls,
+        tries: state.tries,
+        forced: state.forced,
+        free: state.free,
     }
 }

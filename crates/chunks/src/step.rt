@@ -1,12 +1,10 @@
 // What a call leaves (docs/RULES.md, "Run"): statuses, counts and a row, for each of its three ends.
 ghost use mathlib.Core.Path.{_≡_};
-ghost use mathlib.Core.List.{List};
-ghost use Prim.Native.Nat.{ℕ, _+_, _*_, _≤_};
+ghost use Prim.Native.Nat.{_+_, _*_, _≤_};
 ghost use lib.ListN.{length};
 ghost use Rattle.rules.specs.Meaning.{clauses};
-ghost use Rattle.rules.specs.Run.{Task, Progress, opens, afterModel, afterNone, afterStop};
 ghost use Rattle.steps.specs.Flip.{Formula};
-ghost use Rattle.chunks.specs.Step.{Shows, StepReady, doubled};
+ghost use Rattle.chunks.specs.Step.{StepReady, doubled, ModelLeft, NoneLeft, StopLeft};
 
 // How far a run has come, beside the statuses and the log: the chunk size that is next, the candidates left, calls begun, tries, and
 // how many variables are free and forced.
@@ -35,7 +33,7 @@ pub fn after_model(
     spent: u32,
 ) -> State
     requires { ⌜ Formula (length (now model)) (now entries) (now starts) count × StepReady (now first) (now status) (now log) s spent × (length (now model) ≡ length (now status)) ⌝ }
-    ensures { λ r. ⌜ ((k : Task) (p : Progress) → k .formula ≡ clauses (now (entries .entry)) → Shows (k .vars) p s (now (first .entry)) (now (status .entry)) (now (log .entry)) → (r .size ≡ 1) × Shows (k .vars) (afterModel k p chunk (now (model .entry)) spent) r (now (first .entry)) (now (status .exit)) (now (log .exit))) ⌝ }
+    ensures { λ r. ⌜ ModelLeft (clauses (now (entries .entry))) (now (first .entry)) (now (model .entry)) (now (status .entry)) (now (log .entry)) s chunk spent r (now (model .exit)) (now (status .exit)) (now (log .exit)) ⌝ }
 {
     let by_compare = steps::filter::compare(first, model, status);
     let by_flip = steps::flip::flip(entries, starts, count, model, status);
@@ -88,7 +86,7 @@ pub fn after_none(
     spent: u32,
 ) -> State
     requires { ⌜ StepReady (now first) (now status) (now log) s spent × (chunk ≤ s .left) × (s .size ≤ 256) ⌝ }
-    ensures { λ r. ⌜ ((k : Task) (p : Progress) → Shows (k .vars) p s (now (first .entry)) (now (status .entry)) (now (log .entry)) → (r .size ≡ doubled (s .size) limit) × Shows (k .vars) (afterNone p chunk spent) r (now (first .entry)) (now (status .exit)) (now (log .exit))) ⌝ }
+    ensures { λ r. ⌜ NoneLeft (now (first .entry)) (now (status .entry)) (now (log .entry)) s chunk limit spent r (now (status .exit)) (now (log .exit)) ⌝ }
 {
     steps::chunk::force_first(first, status, chunk);
     steps::row::put_row(
@@ -113,12 +111,12 @@ pub fn after_none(
     }
 }
 
-// After a stop: what was shown before it stays.
+// After a stop: the statuses stay, and this is what the run returns.
 // Rules out: a row that says none; a call not counted.
 // Required of: calls::next_call, by At.
-pub fn after_stop(log: &mut [u32], s: State, chunk: u32, spent: u32) -> State
+pub fn after_stop(log: &mut [u32], s: State, chunk: u32, spent: u32) -> rules::Report
     requires { ⌜ (6 * (s .calls + 1) ≤ length (now log)) × (s .calls ≤ 256) × (s .tries ≤ spent) ⌝ }
-    ensures { λ r. ⌜ ((k : Task) (p : Progress) (first status : List ℕ) → Shows (k .vars) p s first status (now (log .entry)) → Shows (k .vars) (afterStop p chunk spent) r first status (now (log .exit))) ⌝ }
+    ensures { λ r. ⌜ StopLeft (now (log .entry)) s chunk spent r (now (log .exit)) ⌝ }
 {
     steps::row::put_row(
         log,
@@ -132,12 +130,11 @@ pub fn after_stop(log: &mut [u32], s: State, chunk: u32, spent: u32) -> State
             spent: spent,
         },
     );
-    State {
-        size: s.size,
-        left: s.left,
+    rules::Report {
+        answer: rules::RunAnswer::Stopped,
         calls: s.calls + 1,
         tries: spent,
-        free: s.free,
         forced: s.forced,
+        free: s.free,
     }
 }

@@ -2,6 +2,7 @@
 ghost use Prim.Native.Nat.{_+_, _≤_};
 ghost use mathlib.Core.List.{List, [], _∷_, _++_};
 ghost use lib.ListN.{length};
+ghost use Rattle.rules.specs.Numbers.{maxVars};
 ghost use Rattle.rules.specs.Printed.{refusedLine, answerLine, statusWords, statusLines};
 ghost use Rattle.lines.specs.Put.{Put, Room};
 ghost use Rattle.lines.specs.Lines.{statusLine, countFields, endFields};
@@ -83,11 +84,11 @@ fn put_status(out: &mut [u8], at: usize, status: u8) -> usize
 // The line of a variable.
 // Rules out: the number less one; a line without LF.
 // Required of: put_lines, whose room is that of all lines.
-fn put_variable(out: &mut [u8], at: usize, v: usize, status: u8) -> usize
-    requires { ⌜ Room at (statusLine v status) (now out) ⌝ }
-    ensures { λ r. ⌜ Put at (statusLine v status) (now (out .entry)) r (now (out .exit)) ⌝ }
+fn put_variable(out: &mut [u8], at: usize, v: rules::Var, status: u8) -> usize
+    requires { ⌜ Room at (statusLine (v .0) status) (now out) ⌝ }
+    ensures { λ r. ⌜ Put at (statusLine (v .0) status) (now (out .entry)) r (now (out .exit)) ⌝ }
 {
-    let behind_variable = put_decimal(out, at, v);
+    let behind_variable = put_decimal(out, at, v.0 as usize);
     let behind_status = put_status(out, behind_variable, status);
     put_byte(out, behind_status, 10)
 }
@@ -96,13 +97,13 @@ fn put_variable(out: &mut [u8], at: usize, v: usize, status: u8) -> usize
 // Rules out: the last variable left out; lines numbered from 0.
 // Required of: printed::table::put_table, whose room is the whole table's.
 pub fn put_lines(out: &mut [u8], at: usize, status: &[u8]) -> usize
-    requires { ⌜ Room at (statusLines 1 (now status)) (now out) ⌝ }
+    requires { ⌜ Room at (statusLines 1 (now status)) (now out) × (length (now status) ≤ maxVars) ⌝ }
     ensures { λ r. ⌜ Put at (statusLines 1 (now (status .entry))) (now (out .entry)) r (now (out .exit)) ⌝ }
 {
     let mut next = at;
     let mut i: usize = 0;
     while i < status.len() {
-        next = put_variable(out, next, i + 1, status[i]);
+        next = put_variable(out, next, rules::Var(i as u32 + 1), status[i]);
         i += 1;
     }
     next

@@ -35,6 +35,7 @@ use Rattle.rules.specs.RunRefusals.{Accepted}
 use Rattle.rules.specs.Printed.{refusedLine, answerLine, statusLines, tableBy, tableOfRun, tableGiven, tableOfJudged, tableOf, maxTable, countIfRoom, bytesIfRoom, Prints}
 use Rattle.rules.proofs.RunTheorems.{run-answer, run-statuses}
 use Rattle.rules.proofs.RefusedRuns.{run-accepted}
+use Rattle.rules.proofs.BufferTheorems.{length-statusAfter}
 use Rattle.rules.proofs.RefusalLaws.{refusal-sound}
 use Rattle.rules.proofs.PrintedLaws.{table-runs}
 use Rattle.rules.proofs.TableLaws.{length-tableOf}
@@ -134,6 +135,7 @@ module _ {vars : ℕ} {es : List ℤ} {status log : List ℕ} (w : Accepted (lis
         record {
           ended = rw report-is (run-answer k some);
           counted = rw report-is (omega (arith, count-both (run k .progress .statuses), run-statuses k some .0));
+          vars-fit = omega (arith, ap length (d .status-is), length-statusAfter lent lent-accepted, z .status-len, w .listed .lent .in-limits .vars-fit);
           room = room-same (sym run-table) m;
         }
 

@@ -7,6 +7,7 @@ use lib.IntN.{ℤ}
 use lib.ListN.{length}
 use Rattle.rules.specs.declared.RunAnswer.{RunAnswer}
 use Rattle.rules.specs.declared.Report.{Report}
+use Rattle.rules.specs.Numbers.{maxVars}
 use Rattle.rules.specs.Text.{Sizes}
 use Rattle.rules.specs.Reading.{accepted}
 use Rattle.rules.specs.Answer.{Given, logLength}
@@ -43,4 +44,5 @@ Ended a = (a ≡ RunAnswer.Settled) ⊎ ((a ≡ RunAnswer.NoModel) ⊎ (a ≡ Ru
 pub record TableReady (vars : ℕ) (r : Report) (ss out : List ℕ) : Type 0 where
   pub ended : Ended (r .answer)
   pub counted : r .forced + r .free ≤ vars
+  pub vars-fit : length ss ≤ maxVars
   pub room : Room 0 (tableOfRun vars r ss) out

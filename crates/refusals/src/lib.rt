@@ -1,9 +1,10 @@
 // What a run refuses, in the order 10, 1, 11, 12 (docs/RULES.md, "What comes back"). Nobody has to check a list first.
 ghost use mathlib.Core.Path.{_≡_};
 ghost use mathlib.Core.Bool.{_||_};
-ghost use Prim.Native.Nat.{ℕ};
+ghost use Prim.Native.Nat.{ℕ, _≤_};
 ghost use lib.Dec.{eqb, ltb};
 ghost use Rattle.rules.specs.Lists.{nthIndex};
+ghost use Rattle.rules.specs.Numbers.{maxVars};
 ghost use Rattle.rules.specs.Reading.{isZero};
 ghost use Rattle.rules.specs.Answer.{Given, given, logLength, isEnded, isAbove, refusalOf};
 ghost use Rattle.rules.specs.RunRefusals.{Lent};
@@ -64,6 +65,7 @@ fn first_above(entries: &[i32], vars: u32) -> usize
 
 // 11 and 12, where 10 and 1 are not to be given.
 fn refuse_list(entries: &[i32], vars: u32) -> Refusal
+    requires { ⌜ vars ≤ maxVars ⌝ }
     ensures { λ r. ⌜ ((g : Given) → g .entries ≡ now (entries .entry) → g .vars ≡ vars → Lent g → r ≡ found (refusalOf g)) ⌝ }
 {
     if rules::MAX_ENTRIES < entries.len() {

@@ -1,13 +1,10 @@
 -- `calls::next_call` meets its contract: what comes of the call, by what it ended with. Assumes nothing.
-use mathlib.Core.Path.{_≡_, refl, sym, _∙_, ap}
-use mathlib.Core.List.{List}
-use Prim.Native.Nat.{ℕ, _≤_}
+use mathlib.Core.Path.{_≡_, sym, _∙_}
 use native.Mathlib.Omega.{arith}
 use borrow.Author.Needs.{needs}
 use lib.ListN.{length}
 use Rattle.rules.specs.Run.{forcedValues}
 use Rattle.chunks.specs.Step.{StepReady}
-use Rattle.chunks.specs.Calls.{At, Ready, task}
 use Rattle.chunks.proofs.CallLaws.{step-ready, size-le}
 use Rattle.chunks.proofs.NextLaws.{spent-up, chunkClauses, on-model, on-none, on-stop}
 use Rattle.chunks.proofs.calls.next_call.Statement.{statement}
@@ -72,7 +69,7 @@ returns c =
     let call = told .before .before .before .before .before in
     let lesser = call .before .before .before in
     let s = lesser .before .before .before .before .before .before in
-    λ w. on-model (s .args .entries .now) (length (s .args .status .now)) (s .args .budget) (s .args .limit) w (s .pre .0 .limit-some) (s .pre .2) (lesser .lesser .result) (lesser .lesser .ensures) (call .chunk-call .ensures) (told .enum-told .given .1) (step .after-model .ensures (task (s .args .entries .now) (length (s .args .status .now)) (s .args .budget) (s .args .limit)) (w .progress) refl (w .shows))
+    λ w. on-model (s .args .entries .now) (length (s .args .status .now)) (s .args .budget) (s .args .limit) w (s .pre .0 .limit-some) (s .pre .2) (ready call .log-room) (lesser .lesser .result) (lesser .lesser .ensures) (call .chunk-call .ensures) (told .enum-told .given .1) (step .after-model .ensures)
 
 same-length-4 : tie.Need-same-length-4
 same-length-4 c = search needs
@@ -90,7 +87,7 @@ returns-2 c =
     let call = told .before .before .before .before .before in
     let lesser = call .before .before .before in
     let s = lesser .before .before .before .before .before .before in
-    λ w. on-none (s .args .entries .now) (length (s .args .status .now)) (s .args .budget) (s .args .limit) w (s .pre .0 .limit-some) (s .pre .2) (lesser .lesser .result) (lesser .lesser .ensures) (call .chunk-call .ensures) (told .enum-told2 .given .1) (step .after-none .ensures (task (s .args .entries .now) (length (s .args .status .now)) (s .args .budget) (s .args .limit)) (w .progress) (w .shows))
+    λ w. on-none (s .args .entries .now) (length (s .args .status .now)) (s .args .budget) (s .args .limit) w (s .pre .0 .limit-some) (s .pre .2) (ready call .log-room) (lesser .lesser .result) (lesser .lesser .ensures) (call .chunk-call .ensures) (told .enum-told2 .given .1) (step .after-none .ensures)
 
 same-length-7 : tie.Need-same-length-7
 same-length-7 c = search needs
@@ -108,7 +105,7 @@ returns-3 c =
     let call = told .before .before .before .before .before in
     let lesser = call .before .before .before in
     let s = lesser .before .before .before .before .before .before in
-    λ w. on-stop (s .args .entries .now) (length (s .args .status .now)) (s .args .budget) (s .args .limit) w (s .pre .0 .limit-some) (s .pre .2) (lesser .lesser .result) (lesser .lesser .ensures) (call .chunk-call .ensures) (told .enum-told3 .given .1) (step .after-stop .ensures (task (s .args .entries .now) (length (s .args .status .now)) (s .args .budget) (s .args .limit)) (w .progress) _ _ (w .shows))
+    λ w. on-stop (s .args .entries .now) (length (s .args .status .now)) (s .args .budget) (s .args .limit) w (s .pre .0 .limit-some) (s .pre .2) (ready call .log-room) (lesser .lesser .result) (lesser .lesser .ensures) (call .chunk-call .ensures) (told .enum-told3 .given .1) (step .after-stop .ensures)
 
 pub next-call-spec : {M : Type 1} → statement M
 next-call-spec =

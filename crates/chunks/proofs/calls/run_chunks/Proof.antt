@@ -1,11 +1,9 @@
 -- `calls::run_chunks` meets its contract. The invariant of its loop: the buffers keep their lengths, and the run is where it was, or
 -- further. The measure is how many candidates are left. Assumes nothing.
-use mathlib.Core.Path.{_≡_, refl, sym, _∙_, ap}
-use Prim.Native.Nat.{ℕ, _<_}
-use native.Mathlib.Omega.{arith}
+use mathlib.Core.Path.{_≡_, refl, _∙_}
 use borrow.Author.Needs.{needs}
 use lib.ListN.{length}
-use Rattle.chunks.specs.Calls.{At, Ready, StepTo, task}
+use Rattle.chunks.specs.Calls.{task}
 use Rattle.chunks.proofs.LoopLaws.{Going, going-start, going-step, going-less, going-stop, going-done}
 use Rattle.chunks.proofs.calls.run_chunks.Statement.{statement}
 use Rattle.chunks.proofs.calls.run_chunks.Tie as tie
@@ -41,18 +39,19 @@ loop-less c =
     let call = c .before .before .before .before .before .before .before .before .before in
     let at-loop = call .before .before .before .before .before .before in
     let s = at-loop .before .before .before .before .before .before in
-    going-less (at-loop .loop .inv .3) (rw (at-loop .loop .inv .0) at (call .next-call .ensures)) (c .before .next .given .1) (s .pre .1)
+    going-less (s .pre .0 .limit-some) (at-loop .loop .inv .3) (rw (at-loop .loop .inv .0) at (call .next-call .ensures)) (c .before .next .given .1) (s .pre .1)
 
 loop-again : tie.Need-loop-again Inv-loop μ-loop
 loop-again c =
     let call = c .before .before .before .before .before .before .before .before .before in
     let at-loop = call .before .before .before .before .before .before in
+    let s = at-loop .before .before .before .before .before .before in
     let l = at-loop .loop .inv in
     let kept = call .next-call .kept in
-    (kept .1 .1 .1 .1 .0 ∙ l .0, kept .1 .1 .1 .1 .1 .0 ∙ l .1, kept .1 .1 .1 .1 .1 .1 .0 ∙ l .2, going-step (l .3) (rw (l .0) at (call .next-call .ensures)) (c .before .next .given .1))
+    (kept .1 .1 .1 .1 .0 ∙ l .0, kept .1 .1 .1 .1 .1 .0 ∙ l .1, kept .1 .1 .1 .1 .1 .1 .0 ∙ l .2, going-step (s .pre .0 .limit-some) (l .3) (rw (l .0) at (call .next-call .ensures)) (c .before .next .given .1))
 
-enum-known-last : tie.Need-enum-known-last Inv-loop μ-loop
-enum-known-last c = search needs
+enum-known-report : tie.Need-enum-known-report Inv-loop μ-loop
+enum-known-report c = search needs
 
 same-length : tie.Need-same-length Inv-loop μ-loop
 same-length c = let call = c .before .before .before .before .before .before .before .before .before in call .next-call .kept .1 .1 .1 .1 .0 ∙ call .before .before .before .before .before .before .loop .inv .0
@@ -66,8 +65,10 @@ same-length-3 c = let call = c .before .before .before .before .before .before .
 returns : tie.Need-returns Inv-loop μ-loop
 returns c =
     let call = c .before .before .before .before .before .before .before .before .before in
-    let l = call .before .before .before .before .before .before .loop .inv in
-    λ v. going-stop (l .3) (rw (l .0) at (call .next-call .ensures)) (c .before .last .given .1) v
+    let at-loop = call .before .before .before .before .before .before in
+    let s = at-loop .before .before .before .before .before .before in
+    let l = at-loop .loop .inv in
+    λ v. going-stop (s .pre .0 .limit-some) (l .3) (rw (l .0) at (call .next-call .ensures)) (c .before .report .given .1) v
 
 same-length-4 : tie.Need-same-length-4 Inv-loop μ-loop
 same-length-4 c = c .before .before .loop .inv .0
@@ -95,7 +96,7 @@ run-chunks-spec =
     enum-known-next
     loop-less
     loop-again
-    enum-known-last
+    enum-known-report
     same-length
     same-length-2
     same-length-3

@@ -1,11 +1,9 @@
--- `step::after_model` meets its contract: by the law of a step after a model. Assumes nothing.
-use mathlib.Core.Path.{_≡_, refl}
+-- `step::after_model` meets its contract: what compare, flip and the row leave. Assumes nothing.
+use mathlib.Core.Path.{refl}
 use native.Mathlib.Omega.{arith}
 use borrow.Author.Needs.{needs}
-use lib.ListN.{length}
 use Rattle.rules.specs.Run.{isOpen}
 use Rattle.rules.proofs.ListLaws.{count-le}
-use Rattle.chunks.proofs.StepLaws.{shows-model}
 use Rattle.chunks.proofs.step.after_model.Statement.{statement}
 use Rattle.chunks.proofs.step.after_model.Tie as tie
 
@@ -54,8 +52,15 @@ returns c =
     let put = c .before .before .before .before .before in
     let fl = put .before .before .before .before .before .before in
     let co = fl .before .before .before .before .before in
-    let s = co .before .before .before .before .before .before .before .before in
-    λ k p e w. (refl, shows-model k p (s .args .s) w (s .pre .1 .log-room) _ e (s .args .chunk) (s .args .model .now) _ (s .args .spent) (co .compare .result) (fl .flip .result) (co .compare .ensures) (fl .flip .ensures) (put .put-row .ensures))
+    record {
+      by-compare = co .compare .result;
+      by-flip = fl .flip .result;
+      between = _;
+      compares = co .compare .ensures;
+      flips = fl .flip .ensures;
+      log-is = put .put-row .ensures;
+      result-is = refl;
+    }
 
 pub after-model-spec : {M : Type 1} → statement M
 after-model-spec =

@@ -1,11 +1,8 @@
--- `step::after_none` meets its contract: by the law of a step after none. Assumes nothing.
-use mathlib.Core.Path.{_≡_, sym, _∙_, ap}
+-- `step::after_none` meets its contract: what forcing and the row leave. Assumes nothing.
 use native.Mathlib.Omega.{arith}
 use borrow.Author.Needs.{needs}
-use lib.ListN.{length}
-use Rattle.rules.specs.Run.{isOpen, opens}
+use Rattle.rules.specs.Run.{isOpen}
 use Rattle.rules.proofs.ListLaws.{count-le}
-use Rattle.chunks.proofs.StepLaws.{shows-none}
 use Rattle.chunks.proofs.step.after_none.Statement.{statement}
 use Rattle.chunks.proofs.step.after_none.Tie as tie
 
@@ -40,11 +37,11 @@ returns c =
     let d = c .before .before .before in
     let put = d .before .before .before in
     let force = put .before .before .before .before in
-    let s = force .before .before .before .before .before in
-    λ k p w. (
-      d .doubled .ensures,
-      shows-none k p (s .args .s) w (s .pre .0 .log-room) (s .args .chunk) _ (s .args .spent) (sym (ap length (w .first-is)) ∙ s .pre .0 .len ∙ ap length (w .status-is)) (omega (arith, s .pre .1, s .pre .0 .left-is, ap opens (w .status-is))) (force .force-first .ensures) (put .put-row .ensures),
-    )
+    record {
+      status-is = force .force-first .ensures;
+      log-is = put .put-row .ensures;
+      result-is = rw (d .doubled .ensures);
+    }
 
 pub after-none-spec : {M : Type 1} → statement M
 after-none-spec =

@@ -14,10 +14,13 @@ abbrev μ-loop : tie.MeasureT-loop
 μ-loop out₀ at status next₀ i₀ out next i = length status - i
 
 loop-holds : tie.Need-loop-holds Inv-loop μ-loop
-loop-holds c = lining-start (c .before .before .pre)
+loop-holds c = lining-start (c .before .before .pre .0)
 
-add-put-variable : tie.Need-add-put-variable Inv-loop μ-loop
-add-put-variable c = search needs
+cast-t10 : tie.Need-cast-t10 Inv-loop μ-loop
+cast-t10 c = search needs
+
+add-t11 : tie.Need-add-t11 Inv-loop μ-loop
+add-t11 c = search needs
 
 shared-slice-read-put-variable : tie.Need-shared-slice-read-put-variable Inv-loop μ-loop
 shared-slice-read-put-variable c = search needs
@@ -52,7 +55,8 @@ put-lines-spec =
     Inv-loop
     μ-loop
     loop-holds
-    add-put-variable
+    cast-t10
+    add-t11
     shared-slice-read-put-variable
     put-variable-requires
     add-i

@@ -39,7 +39,7 @@ put-lines-requires : tie.Need-put-lines-requires
 put-lines-requires c κs =
     let first = c .before .before .before .before in
     let s = first .before .before .before .before .before in
-    room-then (answerLine (s .args .vars) (s .args .report)) (statusLines 1 (s .args .status .now)) (room-same (whole (c .before)) (s .pre .room)) (first .put-answer .ensures)
+    (room-then (answerLine (s .args .vars) (s .args .report)) (statusLines 1 (s .args .status .now)) (room-same (whole (c .before)) (s .pre .room)) (first .put-answer .ensures), s .pre .vars-fit)
 
 same-length-2 : tie.Need-same-length-2
 same-length-2 c = search needs

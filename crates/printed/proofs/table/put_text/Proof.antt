@@ -45,7 +45,8 @@ same-length-2 c = search needs
 returns : tie.Need-returns
 returns c =
     let put = c .before .before in
-    put-same (sym (listed (put .before .before .before) .table-is)) (put .put-list .ensures)
+    let accepted = put .before .before .before in
+    (put-same (sym (listed accepted .table-is)) (put .put-list .ensures), accepted .before .before .before .read .ensures .after-is)
 
 read-place-requires : tie.Need-read-place-requires
 read-place-requires c κs = search needs
@@ -71,7 +72,8 @@ same-length-4 c = search needs
 returns-2 : tie.Need-returns-2
 returns-2 c =
     let put = c .before .before in
-    put-same (line (put .before .before)) (put .put-refused .ensures)
+    let place = put .before .before in
+    (put-same (line place) (put .put-refused .ensures), place .before .before .before .before .read .ensures .after-is)
 
 pub put-text-spec : {M : Type 1} → statement M
 put-text-spec =
