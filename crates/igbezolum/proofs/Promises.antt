@@ -1,16 +1,25 @@
--- What a caller in C or Rust gets from the contracts alone.
+-- What a caller in C or Rust gets from the contracts alone, in its numbers.
+--
 --   reads-in-unique runs-in-unique   no second result meets the promise
 --   reads-back runs-back             the numbers lose nothing: the answer that they stand for keeps the promise of the crate below,
 --                                    so that every theorem about it holds of them
+--   read-refused-exactly             igb_read: each refusal number and place exactly when its rule says
+--   read-refused-counts read-refused-kept read-refused-cleared     what is returned and what the buffer holds then
+--   read-exactly                     answer 0 exactly if the text is one of the grammar and there is room
 --   read-card card-runs              a text that is accepted: its clauses stand in the buffer, and their run is not refused for them
---   settled-forced settled-free no-model-exactly forced-sound free-witness calls-most tries-most
---                                    what the statuses and the numbers of a run say of models
+--   answered refused-exactly         igb_run: 0, 20 or 21 exactly if no rule refuses; each refusal number and place exactly
+--   nothing-written rest-stays       a refused run writes nothing; what stands behind table and rows always stays
+--   settled-forced settled-free settled-none-open settled-same     after 0
+--   no-model-exactly no-model-table  20
+--   forced-sound free-witness calls-most tries-most counted logged     after 0, 20 and 21 alike
+--
 -- Assumes nothing.
 use mathlib.Core.Path.{_≡_, refl, sym, _∙_, ap}
 use mathlib.Core.Bool.{true, false, cond}
 use mathlib.Core.Logic.{_≢_, _⊎_, inl, inr, _↔_}
 use mathlib.Core.List.{List, _++_, append-assoc}
-use Prim.Native.Nat.{ℕ, _+_, _-_, _≤_, _<_}
+use Prim.Native.Nat.{ℕ, zero, suc, _+_, _-_, _≤_, _<_}
+use native.Mathlib.Omega.{arith}
 use lib.Dec.{eqb}
 use lib.IntN.{ℤ, pos}
 use lib.ListN.{length, take, drop, replicate}
@@ -23,6 +32,7 @@ use Rattle.rules.specs.Numbers.{maxEntries, readNumber, readPlace, runNumber, r
 use Rattle.rules.specs.Text.{Sizes}
 use Rattle.rules.specs.Reading.{readingOf, Reads}
 use Rattle.rules.specs.Grammar.{Dimacs}
+use Rattle.rules.specs.Refusals.{Refuses}
 use Rattle.rules.specs.Meaning.{LitUpTo, clauses}
 use Rattle.rules.specs.Models.{NoModel, Forced, Free, WitnessOf}
 use Rattle.rules.specs.Lists.{count}
@@ -31,6 +41,7 @@ use Rattle.rules.specs.Answer.{Given, given, logLength, taskOf, reportOf, logOf
 use Rattle.rules.specs.RunRefusals.{Lent, Accepted, RunRefuses}
 use Rattle.rules.specs.Log.{LogOf}
 use Rattle.rules.proofs.ListLaws.{both, never, not-true}
+use Rattle.rules.proofs.Theorems as theorems
 use Rattle.rules.proofs.ReadingTheorems.{read-accepts, read-accepted}
 use Rattle.rules.proofs.TextTheorems.{dimacs-runs}
 use Rattle.backbone.proofs.Promises as run
@@ -127,6 +138,39 @@ pub runs-back : {g : Given} {n : IgbReport} {status log : List ℕ} → RunsIn g
 runs-back {g = g} d =
     record { result-is = ap reportFrom (d .result-is) ∙ report-back (reportOf g); status-is = d .status-is; log-is = d .log-is }
 
+-- ---- a text that is refused
+
+pos-of : {n : ℕ} → n ≢ 0 → 1 ≤ n
+pos-of {zero} h = absurd (h refl)
+pos-of {suc n} h = omega arith
+
+module _ {text : List ℕ} {before after : List ℤ} {n : IgbReading} (w : ReadsIn text before n after) where
+  read-number-is : n .answer ≡ readNumber (readingOf text before .answer)
+  read-number-is = ap (λ (m : IgbReading). m .answer) (w .result-is)
+
+  read-place-is : n .place ≡ readPlace (readingOf text before .answer)
+  read-place-is = ap (λ (m : IgbReading). m .place) (w .result-is)
+
+  -- each refusal number and place exactly when its rule says so
+  pub read-refused-exactly : (a : ReadAnswer) → a ≢ ReadAnswer.Accepted
+      → ((n .answer ≡ readNumber a) × (n .place ≡ readPlace a)) ↔ Refuses (length before) text a
+  read-refused-exactly a ne =
+      let exactly = theorems.reader-refuses text before a ne in
+      let answer-is : readingFrom n .answer ≡ readingOf text before .answer = ap (λ (r : Reading). r .answer) (reads-back w .result-is) in
+      (λ e. exactly .0 (sym answer-is ∙ cc (e .0, e .1) ∙ readAnswer-numbers a), λ h. let q = exactly .1 h in (read-number-is ∙ ap readNumber q, read-place-is ∙ ap readPlace q))
+
+  -- the counts are zero, and the buffer is as it was after 1 and 2, cleared after 3 to 9; a longer one keeps its rest
+  pub read-refused-counts : n .answer ≢ 0 → (n .vars ≡ 0) × (n .clauses ≡ 0) × (n .count ≡ 0)
+  read-refused-counts ne =
+      let (v, c, k) = theorems.reader-counts text before (omega (arith, read-number-is, pos-of ne)) in
+      (ap (λ (m : IgbReading). m .vars) (w .result-is) ∙ v, ap (λ (m : IgbReading). m .clauses) (w .result-is) ∙ c, ap (λ (m : IgbReading). m .count) (w .result-is) ∙ k)
+
+  pub read-refused-kept : (n .answer ≡ 1) ⊎ (n .answer ≡ 2) → after ≡ before
+  read-refused-kept h = w .after-is ∙ theorems.reader-keeps text before (rw (sym read-number-is) h)
+
+  pub read-refused-cleared : 3 ≤ n .answer → after ≡ replicate 4096 (pos 0) ++ drop 4096 before
+  read-refused-cleared h = w .after-is ∙ theorems.reader-clears text before (rw (sym read-number-is) h)
+
 -- ---- a text that is accepted
 
 -- the grammar derives the text, with V and C as returned, and its entries stand at the front of the buffer
@@ -155,11 +199,20 @@ module _ {text : List ℕ} {before after : List ℤ} {n : IgbReading} (w : Reads
   pub read-card : CardRead text n after
   read-card = let (room, s, es, d) = read-accepted text before is-accepted in card-of w room s es d
 
+  pub read-room : maxEntries ≤ length before
+  read-room = read-accepted text before is-accepted .0
+
   -- with buffers that are long enough and limits that are allowed the run of what was read is not refused
   pub card-runs : (budget limit : ℕ) (status log : List ℕ) → Lent (given (take (n .count) after) (n .vars) budget limit status log) → Accepted (given (take (n .count) after) (n .vars) budget limit status log)
   card-runs budget limit status log l =
       let c = read-card in
       dimacs-runs (given (take (n .count) after) (n .vars) budget limit status log) (rw (← c .stands) at (c .derived)) l
+
+-- 0 is answered exactly if there is room and the text is one of the grammar
+pub read-exactly : {text : List ℕ} {before after : List ℤ} {n : IgbReading} → ReadsIn text before n after
+    → (n .answer ≡ 0) ↔ ((maxEntries ≤ length before) × (s : Sizes) × (es : List ℤ) × Dimacs text (s .vars) (s .clauses) es)
+read-exactly {text} {before} w =
+    (λ z. read-accepted text before (is-accepted w z), λ h. let (room, s, es, d) = h in ap (λ (m : IgbReading). m .answer) (w .result-is) ∙ ap (λ (r : Reading). readNumber (r .answer)) (read-accepts text before room s es .0 d .0))
 
 -- ---- what a run answers, and what it writes
 

@@ -5,7 +5,7 @@ use mathlib.Core.Logic.{_≢_, _⊎_, _↔_}
 use mathlib.Core.Bool.{true}
 use mathlib.Core.List.{List, [], _∷_, _++_}
 use mathlib.Core.Option.{none, some}
-use Prim.Native.Nat.{ℕ, suc, _+_, _≤_, _<_}
+use Prim.Native.Nat.{ℕ, suc, _+_, _-_, _≤_, _<_}
 use lib.IntN.{ℤ, pos, negsuc}
 use lib.ListN.{length, take, drop, replicate}
 use Rattle.rules.specs.declared.ReadAnswer.{ReadAnswer}
@@ -13,7 +13,7 @@ use Rattle.rules.specs.declared.Reading.{Reading}
 use Rattle.rules.specs.declared.RunAnswer.{RunAnswer}
 use Rattle.rules.specs.declared.Report.{Report}
 use Rattle.rules.specs.declared.ClauseState.the-variants.{False}
-use Rattle.rules.specs.Lists.{In, count}
+use Rattle.rules.specs.Lists.{In, all, count}
 use Rattle.rules.specs.Numbers.{maxEntries, readNumber, readPlace}
 use Rattle.rules.specs.Text.{Sizes}
 use Rattle.rules.specs.Reading.{readingOf, filled, entriesAfter, Reads}
@@ -48,6 +48,9 @@ use Rattle.rules.proofs.TextTheorems as texts
 use Rattle.rules.proofs.PrintedLaws as printed
 use Rattle.rules.proofs.TableLaws as table-laws
 use Rattle.rules.proofs.TableTheorems as tables
+use Rattle.rules.proofs.Starred as run-cases
+use Rattle.rules.proofs.AnswerCases as more-cases
+use Rattle.rules.proofs.EdgeCases as edges
 
 -- ---- the reader
 
@@ -62,6 +65,29 @@ reader-agrees = reading.read-accepts
 pub reader-refuses : (text : List ℕ) (before : List ℤ) (a : ReadAnswer) → a ≢ ReadAnswer.Accepted
     → (readingOf text before .answer ≡ a) ↔ Refuses (length before) text a
 reader-refuses = reading.read-refuses
+
+-- After 1 and 2 nothing is written.
+pub reader-keeps : (text : List ℕ) (before : List ℤ)
+    → (readNumber (readingOf text before .answer) ≡ 1) ⊎ (readNumber (readingOf text before .answer) ≡ 2)
+    → entriesAfter text before ≡ before
+reader-keeps = reading.refused-keeps
+
+-- After 3 to 9 the first 4,096 entries are zeros, and the rest is as it was.
+pub reader-clears : (text : List ℕ) (before : List ℤ) → 3 ≤ readNumber (readingOf text before .answer)
+    → entriesAfter text before ≡ replicate 4096 (pos 0) ++ drop 4096 before
+reader-clears = reading.refused-clears
+
+-- After every refusal V, C and the entry count are zero.
+pub reader-counts : (text : List ℕ) (before : List ℤ) → 1 ≤ readNumber (readingOf text before .answer)
+    → (readingOf text before .vars ≡ 0) × (readingOf text before .clauses ≡ 0) × (readingOf text before .entries ≡ 0)
+reader-counts = reading.refused-counts
+
+-- An accepted text's entries stand in front, then zeros up to 4,096, and the rest is as it was.
+pub reader-fills : (text : List ℕ) (before : List ℤ) {vars clauses : ℕ} {es : List ℤ} → 4096 ≤ length before → Dimacs text vars clauses es
+    → (take (length es) (entriesAfter text before) ≡ es)
+    × (take (4096 - length es) (drop (length es) (entriesAfter text before)) ≡ replicate (4096 - length es) (pos 0))
+    × (drop 4096 (entriesAfter text before) ≡ drop 4096 before)
+reader-fills = reading.accepted-fills
 
 -- Every formula within the sizes, printed plainly, is read back as itself.
 pub reader-round-trip : (vars : ℕ) (F : List Clause) (before : List ℤ) → Within vars F → maxEntries ≤ length before
@@ -260,6 +286,31 @@ module _ {text : List ℕ} {vars n : ℕ} {es : List ℤ} (d : Dimacs text vars 
   -- Unless its first line says answer 21, it says 20 exactly if there is no model.
   pub table-no-model : (SaysAnswer 21 (tableOf text) → ⊥) → SaysAnswer 20 (tableOf text) ↔ NoModel vars (clauses es)
   table-no-model = tables.table-no-model d
+
+-- ---- computed cases: each is a table whose lines are compared with what the definitions give
+
+-- The small formulas that the rules mark, whole.
+pub starred : all run-cases.passes run-cases.cases ≡ true
+starred = run-cases.starred
+
+-- Further small formulas, each for a sentence that no marked one shows.
+pub further-cases : all run-cases.passes more-cases.further ≡ true
+further-cases = more-cases.further-cases
+
+-- The small texts, with number and place.
+pub small-texts : all reading.passes reading.smallTexts ≡ true
+small-texts = reading.small-texts
+
+-- The last size that passes and the first one that is refused, with number and place: texts, and lists and limits of a run.
+pub text-edges : all edges.text-passes edges.textEdges ≡ true
+text-edges = edges.text-edges
+
+pub run-edges : all edges.run-passes edges.runEdges ≡ true
+run-edges = edges.run-edges
+
+-- Printed tables with each word that a table may have.
+pub shown : all printed.passes printed.tables ≡ true
+shown = printed.shown
 
 -- ---- no second result
 
