@@ -140,9 +140,9 @@ runs-back {g = g} d =
 
 -- ---- a text that is refused
 
-pos-of : {n : ℕ} → n ≢ 0 → 1 ≤ n
-pos-of {zero} h = absurd (h refl)
-pos-of {suc n} h = omega arith
+pos-of : (n : ℕ) → n ≢ 0 → 1 ≤ n
+pos-of zero h = absurd (h refl)
+pos-of (suc n) h = omega arith
 
 module _ {text : List ℕ} {before after : List ℤ} {n : IgbReading} (w : ReadsIn text before n after) where
   read-number-is : n .answer ≡ readNumber (readingOf text before .answer)
@@ -162,7 +162,7 @@ module _ {text : List ℕ} {before after : List ℤ} {n : IgbReading} (w : Reads
   -- the counts are zero, and the buffer is as it was after 1 and 2, cleared after 3 to 9; a longer one keeps its rest
   pub read-refused-counts : n .answer ≢ 0 → (n .vars ≡ 0) × (n .clauses ≡ 0) × (n .count ≡ 0)
   read-refused-counts ne =
-      let (v, c, k) = theorems.reader-counts text before (omega (arith, read-number-is, pos-of ne)) in
+      let (v, c, k) = theorems.reader-counts text before (omega (arith, read-number-is, pos-of (n .answer) ne)) in
       (ap (λ (m : IgbReading). m .vars) (w .result-is) ∙ v, ap (λ (m : IgbReading). m .clauses) (w .result-is) ∙ c, ap (λ (m : IgbReading). m .count) (w .result-is) ∙ k)
 
   pub read-refused-kept : (n .answer ≡ 1) ⊎ (n .answer ≡ 2) → after ≡ before
