@@ -77,6 +77,9 @@ fn is_satisfiable(solver: &str, f: &Formula, unit: i32) -> std::io::Result<bool>
 fn solver_difference(solver: &str, text: &[u8]) -> std::io::Result<Option<String>> {
     let Ok(f) = read(text) else { return Ok(None) };
     let r = run_of(&f);
+    if r.answer == 21 {
+        return Ok(None);
+    }
     if is_satisfiable(solver, &f, 0)? == (r.answer == 20) {
         return Ok(Some(format!("answer {}", r.answer)));
     }
@@ -160,6 +163,7 @@ fn many(vars: i32, count: i32, literals: i32) -> String {
 fn families(folder: &str) -> std::io::Result<ExitCode> {
     for (name, text) in [
         ("pigeons_5.cnf", pigeons(5)),
+        ("pigeons_9.cnf", pigeons(9)),
         ("chain_forced_256.cnf", chain(256, true)),
         ("chain_open_20.cnf", chain(20, false)),
         ("groups_8_by_4.cnf", groups(8, 4)),

@@ -37,15 +37,15 @@ pub record TextEdge : Type 0 where
 abbrev numbersOf : Reading → List ℕ
 numbersOf r = readNumber (r .answer) ∷ readPlace (r .answer) ∷ r .vars ∷ r .clauses ∷ r .entries ∷ []
 
-abbrev pub text-passes : TextEdge → Bool
-text-passes t = eqs (numbersOf (readingOf (t .text) (replicate (t .room) (pos 7)))) (t .returned)
+abbrev pub textPasses : TextEdge → Bool
+textPasses t = eqs (numbersOf (readingOf (t .text) (replicate (t .room) (pos 7)))) (t .returned)
 
-abbrev with-room : ℕ → List ℕ → List ℕ → TextEdge
-with-room n text ns = record { room = n; text = text; returned = ns }
+abbrev withRoom : ℕ → List ℕ → List ℕ → TextEdge
+withRoom n text ns = record { room = n; text = text; returned = ns }
 
 -- the buffer is just long enough
 abbrev reads : List ℕ → List ℕ → TextEdge
-reads text ns = with-room 4096 text ns
+reads text ns = withRoom 4096 text ns
 
 -- number and place
 abbrev refuses : ℕ → ℕ → List ℕ
@@ -66,13 +66,13 @@ ones n = quoted "p cnf 1 1\n" ++ times n (quoted "1 ")
 abbrev pub textEdges : List TextEdge
 textEdges =
     -- 1: the buffer
-    with-room 4095 (quoted "p cnf 0 0") (refuses 1 0) ∷
-    with-room 4096 (quoted "p cnf 0 0") (accepts 0 0 0) ∷
-    with-room 4097 (quoted "p cnf 0 0") (accepts 0 0 0) ∷
+    withRoom 4095 (quoted "p cnf 0 0") (refuses 1 0) ∷
+    withRoom 4096 (quoted "p cnf 0 0") (accepts 0 0 0) ∷
+    withRoom 4097 (quoted "p cnf 0 0") (accepts 0 0 0) ∷
     -- 2: a text of 32,768 bytes and one of 32,769; 1 before it
     reads (times 32758 (quoted "c") ++ quoted "\np cnf 0 0") (accepts 0 0 0) ∷
     reads (times 32759 (quoted "c") ++ quoted "\np cnf 0 0") (refuses 2 32768) ∷
-    with-room 4095 (times 32769 (quoted "c")) (refuses 1 0) ∷
+    withRoom 4095 (times 32769 (quoted "c")) (refuses 1 0) ∷
     -- 3: no header, at the end of text; another line, at its start
     reads [] (refuses 3 0) ∷
     reads (quoted "c\n") (refuses 3 2) ∷
@@ -105,15 +105,15 @@ textEdges =
     reads (quoted "p cnf 0 1024") (refuses 9 12) ∷
     []
 
-pub text-edges : all text-passes textEdges ≡ true
+pub text-edges : all textPasses textEdges ≡ true
 unfolding readingOf judge linesOf judgeLines headerOf numeral tokensFrom judgeTokens entryOf
 text-edges = refl
 
 -- 8, and 5, 6 and 7 before it: the last token of such a text behind 4,096 entries, with k clauses complete
-abbrev entry-4097 : ℕ → String → Judged
-entry-4097 k s = judgeTokens (record { vars = 1; clauses = 1 }) 8203 k 4096 (tokensFrom 8202 (quoted s))
+abbrev entry4097 : ℕ → String → Judged
+entry4097 k s = judgeTokens (record { vars = 1; clauses = 1 }) 8203 k 4096 (tokensFrom 8202 (quoted s))
 
-pub entry-order : (entry-4097 0 "1" ≡ refused (ReadAnswer.EntryOver 8202)) × (entry-4097 0 "x" ≡ refused (ReadAnswer.BadToken 8202)) × (entry-4097 1 "1" ≡ refused (ReadAnswer.TokenAfterLast 8202)) × (entry-4097 0 "2" ≡ refused (ReadAnswer.VariableAbove 8202))
+pub entry-order : (entry4097 0 "1" ≡ refused (ReadAnswer.EntryOver 8202)) × (entry4097 0 "x" ≡ refused (ReadAnswer.BadToken 8202)) × (entry4097 1 "1" ≡ refused (ReadAnswer.TokenAfterLast 8202)) × (entry4097 0 "2" ≡ refused (ReadAnswer.VariableAbove 8202))
 unfolding tokensFrom judgeTokens entryOf numeral
 entry-order = (refl, refl, refl, refl)
 
@@ -133,8 +133,8 @@ abbrev refusedBy : Option RunAnswer → ℕ → ℕ → Bool
 refusedBy none n p = eqb 0 n && eqb 0 p
 refusedBy (some a) n p = eqb (runNumber a) n && eqb (runPlace a) p
 
-abbrev pub run-passes : RunEdge → Bool
-run-passes e =
+abbrev pub runPasses : RunEdge → Bool
+runPasses e =
     refusedBy
     (refusalOf (record {
       entries = e .entries;
@@ -195,6 +195,6 @@ runEdges =
     runs (replicate 1025 (pos 0) ++ pos 1 ∷ []) 11 1026 ∷
     []
 
-pub run-edges : all run-passes runEdges ≡ true
+pub run-edges : all runPasses runEdges ≡ true
 unfolding refusalOf
 run-edges = refl
