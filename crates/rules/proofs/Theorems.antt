@@ -302,10 +302,10 @@ pub small-texts : all reading.passes reading.smallTexts ≡ true
 small-texts = reading.small-texts
 
 -- The last size that passes and the first one that is refused, with number and place: texts, and lists and limits of a run.
-pub text-edges : all edges.text-passes edges.textEdges ≡ true
+pub text-edges : all edges.textPasses edges.textEdges ≡ true
 text-edges = edges.text-edges
 
-pub run-edges : all edges.run-passes edges.runEdges ≡ true
+pub run-edges : all edges.runPasses edges.runEdges ≡ true
 run-edges = edges.run-edges
 
 -- Printed tables with each word that a table may have.
