@@ -27,7 +27,7 @@ use Rattle.rules.specs.Models.{NoModel, Forced, Free, WitnessOf}
 use Rattle.rules.specs.Run.{Task, Row, Ended, statusAt, isForcedTo, run}
 use Rattle.rules.specs.Trace.{Ends, first-none, first-stopped, settled, next-stopped}
 use Rattle.rules.specs.Answer.{Given, given, logLength, refusalOf, taskOf, reportIf, reportOf, reportOfRun, statusAfter, logAfter, logOfRows, isFree, isForced, Runs}
-use Rattle.rules.specs.RunRefusals.{Accepted, RunRefuses, out-of-limits, buffer-short, list-long, not-ended, zero-over, variable-above}
+use Rattle.rules.specs.RunRefusals.{Accepted, RunRefuses, bad-limits, short-buffer, list-long, not-ended, zero-over, entry-over-vars}
 use Rattle.rules.specs.Log.{LogOf}
 use Rattle.rules.proofs.ListLaws.{never}
 use Rattle.rules.proofs.RunTrace.{run-ends}
@@ -38,10 +38,10 @@ abbrev pub isAnswered : RunAnswer → Bool
 isAnswered RunAnswer.Settled = true
 isAnswered RunAnswer.NoModel = true
 isAnswered RunAnswer.Stopped = true
-isAnswered RunAnswer.BufferShort = false
-isAnswered RunAnswer.OutOfLimits = false
+isAnswered RunAnswer.ShortBuffer = false
+isAnswered RunAnswer.BadLimits = false
 isAnswered (RunAnswer.BadList at) = false
-isAnswered (RunAnswer.VariableAbove at) = false
+isAnswered (RunAnswer.EntryOverVars at) = false
 
 ends-answered : {k : Task} {e : Ended} → Ends k e → isAnswered (e .answer) ≡ true
 ends-answered (first-none t e) = refl
@@ -50,12 +50,12 @@ ends-answered (settled r o) = refl
 ends-answered (next-stopped t r o e) = refl
 
 rule-refuses : {g : Given} {a : RunAnswer} → RunRefuses g a → isAnswered a ≡ false
-rule-refuses (out-of-limits h) = refl
-rule-refuses (buffer-short i h) = refl
+rule-refuses (bad-limits h) = refl
+rule-refuses (short-buffer i h) = refl
 rule-refuses (list-long l h) = refl
 rule-refuses (not-ended l h front k e z) = refl
 rule-refuses (zero-over l h i front back e z) = refl
-rule-refuses (variable-above l front k back e h z) = refl
+rule-refuses (entry-over-vars l front k back e h z) = refl
 
 module _ {g : Given} {r : Report} {status log : List ℕ} (w : Runs g r status log) where
   -- ---- what is refused, and what is accepted

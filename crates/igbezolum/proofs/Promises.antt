@@ -62,44 +62,44 @@ runs-in-unique d e = (d .result-is ∙ sym (e .result-is), d .status-is ∙ sym 
 abbrev pub readAnswer : ℕ → ℕ → ReadAnswer
 readAnswer n at =
     cond (eqb n 0) ReadAnswer.Accepted
-    (cond (eqb n 1) ReadAnswer.BufferShort
-    (cond (eqb n 2) ReadAnswer.TextLong
+    (cond (eqb n 1) ReadAnswer.ShortBuffer
+    (cond (eqb n 2) ReadAnswer.LongText
     (cond (eqb n 3) (ReadAnswer.BadHeader at)
-    (cond (eqb n 4) (ReadAnswer.HeaderLarge at)
+    (cond (eqb n 4) (ReadAnswer.LargeHeader at)
     (cond (eqb n 5) (ReadAnswer.BadToken at)
-    (cond (eqb n 6) (ReadAnswer.TokenAfterLast at)
-    (cond (eqb n 7) (ReadAnswer.VariableAbove at)
-    (cond (eqb n 8) (ReadAnswer.EntryOver at)
-    (ReadAnswer.EndsEarly at)))))))))
+    (cond (eqb n 6) (ReadAnswer.TokenBehind at)
+    (cond (eqb n 7) (ReadAnswer.TokenOverVars at)
+    (cond (eqb n 8) (ReadAnswer.ManyTokens at)
+    (ReadAnswer.ShortText at)))))))))
 
 readAnswer-numbers : (a : ReadAnswer) → readAnswer (readNumber a) (readPlace a) ≡ a
 readAnswer-numbers ReadAnswer.Accepted = refl
-readAnswer-numbers ReadAnswer.BufferShort = refl
-readAnswer-numbers ReadAnswer.TextLong = refl
+readAnswer-numbers ReadAnswer.ShortBuffer = refl
+readAnswer-numbers ReadAnswer.LongText = refl
 readAnswer-numbers (ReadAnswer.BadHeader at) = refl
-readAnswer-numbers (ReadAnswer.HeaderLarge at) = refl
+readAnswer-numbers (ReadAnswer.LargeHeader at) = refl
 readAnswer-numbers (ReadAnswer.BadToken at) = refl
-readAnswer-numbers (ReadAnswer.TokenAfterLast at) = refl
-readAnswer-numbers (ReadAnswer.VariableAbove at) = refl
-readAnswer-numbers (ReadAnswer.EntryOver at) = refl
-readAnswer-numbers (ReadAnswer.EndsEarly at) = refl
+readAnswer-numbers (ReadAnswer.TokenBehind at) = refl
+readAnswer-numbers (ReadAnswer.TokenOverVars at) = refl
+readAnswer-numbers (ReadAnswer.ManyTokens at) = refl
+readAnswer-numbers (ReadAnswer.ShortText at) = refl
 
 abbrev pub runAnswer : ℕ → ℕ → RunAnswer
 runAnswer n at =
     cond (eqb n 0) RunAnswer.Settled
-    (cond (eqb n 1) RunAnswer.BufferShort
-    (cond (eqb n 10) RunAnswer.OutOfLimits
+    (cond (eqb n 1) RunAnswer.ShortBuffer
+    (cond (eqb n 10) RunAnswer.BadLimits
     (cond (eqb n 11) (RunAnswer.BadList at)
-    (cond (eqb n 12) (RunAnswer.VariableAbove at)
+    (cond (eqb n 12) (RunAnswer.EntryOverVars at)
     (cond (eqb n 20) RunAnswer.NoModel
     RunAnswer.Stopped)))))
 
 runAnswer-numbers : (a : RunAnswer) → runAnswer (runNumber a) (runPlace a) ≡ a
 runAnswer-numbers RunAnswer.Settled = refl
-runAnswer-numbers RunAnswer.BufferShort = refl
-runAnswer-numbers RunAnswer.OutOfLimits = refl
+runAnswer-numbers RunAnswer.ShortBuffer = refl
+runAnswer-numbers RunAnswer.BadLimits = refl
 runAnswer-numbers (RunAnswer.BadList at) = refl
-runAnswer-numbers (RunAnswer.VariableAbove at) = refl
+runAnswer-numbers (RunAnswer.EntryOverVars at) = refl
 runAnswer-numbers RunAnswer.NoModel = refl
 runAnswer-numbers RunAnswer.Stopped = refl
 
@@ -224,10 +224,10 @@ answered-number : (a : RunAnswer) → run.isAnswered a ≡ true → (runNumber a
 answered-number RunAnswer.Settled e = inl refl
 answered-number RunAnswer.NoModel e = inr (inl refl)
 answered-number RunAnswer.Stopped e = inr (inr refl)
-answered-number RunAnswer.BufferShort e = absurd (never e refl)
-answered-number RunAnswer.OutOfLimits e = absurd (never e refl)
+answered-number RunAnswer.ShortBuffer e = absurd (never e refl)
+answered-number RunAnswer.BadLimits e = absurd (never e refl)
 answered-number (RunAnswer.BadList at) e = absurd (never e refl)
-answered-number (RunAnswer.VariableAbove at) e = absurd (never e refl)
+answered-number (RunAnswer.EntryOverVars at) e = absurd (never e refl)
 
 module _ {g : Given} {n : IgbReport} {status log : List ℕ} (w : RunsIn g n status log) where
   below : Runs g (reportFrom n) status log

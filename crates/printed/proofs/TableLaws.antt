@@ -30,7 +30,7 @@ use Rattle.rules.specs.Text.{Sizes}
 use Rattle.rules.specs.Reading.{Judged, accepted, refused, judge, returned, readingOf, filled, written, entriesAfter, Reads}
 use Rattle.rules.specs.Run.{run}
 use Rattle.rules.specs.Answer.{Given, given, logLength, taskOf, isFree, isForced, refusalOf, reportOfRun, reportOf, statusAfter, Runs}
-use Rattle.rules.specs.Refusals.{Refuses, buffer-short, text-long, no-header, bad-header, header-large, bad-token, token-after-last, variable-above, entry-over, ends-early}
+use Rattle.rules.specs.Refusals.{Refuses, short-buffer, long-text, no-header, bad-header, large-header, bad-token, token-behind, token-over-vars, many-tokens, short-text}
 use Rattle.rules.specs.RunRefusals.{Accepted}
 use Rattle.rules.specs.Printed.{refusedLine, answerLine, statusLines, tableBy, tableOfRun, tableGiven, tableOfJudged, tableOf, maxTable, countIfRoom, bytesIfRoom, Prints}
 use Rattle.rules.proofs.RunTheorems.{run-answer, run-statuses}
@@ -148,16 +148,16 @@ pub record ReadList (text : List ℕ) (r : Reading) (after : List ℤ) : Type 0 
   pub table-is : tableOf text ≡ tableOfList (r .vars) (take (r .entries) after)
 
 never-zero : {room : ℕ} {text : List ℕ} {a : ReadAnswer} → Refuses room text a → readNumber a ≡ 0 → ⊥
-never-zero (buffer-short h) e = omega (arith, e)
-never-zero (text-long h k) e = omega (arith, e)
+never-zero (short-buffer h) e = omega (arith, e)
+never-zero (long-text h k) e = omega (arith, e)
 never-zero (no-header b h) e = omega (arith, e)
 never-zero (bad-header line b f h) e = omega (arith, e)
-never-zero (header-large line v c b f h k) e = omega (arith, e)
+never-zero (large-header line v c b f h k) e = omega (arith, e)
 never-zero (bad-token s es t w h) e = omega (arith, e)
-never-zero (token-after-last s es t l w h k) e = omega (arith, e)
-never-zero (variable-above s es t l w h k u) e = omega (arith, e)
-never-zero (entry-over s es t l w h k u m) e = omega (arith, e)
-never-zero (ends-early line s es b h f k) e = omega (arith, e)
+never-zero (token-behind s es t l w h k) e = omega (arith, e)
+never-zero (token-over-vars s es t l w h k u) e = omega (arith, e)
+never-zero (many-tokens s es t l w h k u m) e = omega (arith, e)
+never-zero (short-text line s es b h f k) e = omega (arith, e)
 
 module _ {text : List ℕ} {before : List ℤ} {r : Reading} {after : List ℤ} (d : Reads text before r after) (z : length before ≡ maxEntries) where
   returned-is : r ≡ returned (judge maxEntries text)

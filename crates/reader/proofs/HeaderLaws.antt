@@ -282,7 +282,7 @@ module _ (text : List ℕ) (from to : ℕ) where
     by-sizes : judgeLineAt text from to ≡ judgeSizes (fits (sizes h)) (sizes h) text (pieceOf text from to)
     by-sizes = ap (λ (o : Option Sizes). judgeHeader o text (pieceOf text from to)) (header-good (headerOf line) h is-header)
 
-    pub line-large : fits (sizes h) ≡ false → judgeLineAt text from to ≡ refused (ReadAnswer.HeaderLarge from)
+    pub line-large : fits (sizes h) ≡ false → judgeLineAt text from to ≡ refused (ReadAnswer.LargeHeader from)
     line-large e = by-sizes ∙ ap (λ (t : Bool). judgeSizes t (sizes h) text (pieceOf text from to)) e
 
     pub line-fits :

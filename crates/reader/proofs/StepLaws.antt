@@ -161,9 +161,9 @@ module _ (h : Header) (text : List ℕ) (c : Cursor) where
       (l : ℤ) (from : ℕ) → firstOf (entryRules (sizes h) (c .clauses) (c .entries) from l) ≡ none →
       (c .entries < maxEntries) × (natAbs l ≤ h .vars)
   kept l from e =
-      let one = no-rule (leb (h .clauses) (c .clauses)) (ReadAnswer.TokenAfterLast from) _ e .1 in
-      let two = no-rule (ltb (h .vars) (natAbs l)) (ReadAnswer.VariableAbove from) _ one in
-      (leb-false maxEntries (c .entries) (no-rule (leb maxEntries (c .entries)) (ReadAnswer.EntryOver from) none (two .1) .0), ltb-false (h .vars) (natAbs l) (two .0))
+      let one = no-rule (leb (h .clauses) (c .clauses)) (ReadAnswer.TokenBehind from) _ e .1 in
+      let two = no-rule (ltb (h .vars) (natAbs l)) (ReadAnswer.TokenOverVars from) _ one in
+      (leb-false maxEntries (c .entries) (no-rule (leb maxEntries (c .entries)) (ReadAnswer.ManyTokens from) none (two .1) .0), ltb-false (h .vars) (natAbs l) (two .0))
 
   judges-token :
       (from to : ℕ) (w : List ℕ) → c .at < to → to ≤ length text →

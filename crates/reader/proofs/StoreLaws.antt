@@ -146,15 +146,15 @@ stores-refused before e q = stores-of e (record { result-is = q; list-is = refl;
 
 abbrev late : ReadAnswer → Bool
 late ReadAnswer.Accepted = false
-late ReadAnswer.BufferShort = false
-late ReadAnswer.TextLong = false
+late ReadAnswer.ShortBuffer = false
+late ReadAnswer.LongText = false
 late (ReadAnswer.BadHeader at) = true
-late (ReadAnswer.HeaderLarge at) = true
+late (ReadAnswer.LargeHeader at) = true
 late (ReadAnswer.BadToken at) = true
-late (ReadAnswer.TokenAfterLast at) = true
-late (ReadAnswer.VariableAbove at) = true
-late (ReadAnswer.EntryOver at) = true
-late (ReadAnswer.EndsEarly at) = true
+late (ReadAnswer.TokenBehind at) = true
+late (ReadAnswer.TokenOverVars at) = true
+late (ReadAnswer.ManyTokens at) = true
+late (ReadAnswer.ShortText at) = true
 
 abbrev isLate : Judged → Bool
 isLate (accepted s es) = true
@@ -166,7 +166,7 @@ late-entry l (refused a) h = h
 
 late-rules :
     (b d e : Bool) (at : ℕ) (j : Judged) → isLate j ≡ true →
-    isLate (unless (firstOf (check b (ReadAnswer.TokenAfterLast at) ∷ check d (ReadAnswer.VariableAbove at) ∷ check e (ReadAnswer.EntryOver at) ∷ [])) j) ≡ true
+    isLate (unless (firstOf (check b (ReadAnswer.TokenBehind at) ∷ check d (ReadAnswer.TokenOverVars at) ∷ check e (ReadAnswer.ManyTokens at) ∷ [])) j) ≡ true
 late-rules true d e at j h = refl
 late-rules false true e at j h = refl
 late-rules false false true at j h = refl
@@ -209,15 +209,15 @@ late-lines text (line ∷ lines) = go (isSkipped line) (late-lines text lines)
 written-late : (j : Judged) (before : List ℤ) → isLate j ≡ true → written j before ≡ filled (listOf j) before
 written-late (accepted s es) before h = refl
 written-late (refused ReadAnswer.Accepted) before h = absurd (never h refl)
-written-late (refused ReadAnswer.BufferShort) before h = absurd (never h refl)
-written-late (refused ReadAnswer.TextLong) before h = absurd (never h refl)
+written-late (refused ReadAnswer.ShortBuffer) before h = absurd (never h refl)
+written-late (refused ReadAnswer.LongText) before h = absurd (never h refl)
 written-late (refused (ReadAnswer.BadHeader at)) before h = refl
-written-late (refused (ReadAnswer.HeaderLarge at)) before h = refl
+written-late (refused (ReadAnswer.LargeHeader at)) before h = refl
 written-late (refused (ReadAnswer.BadToken at)) before h = refl
-written-late (refused (ReadAnswer.TokenAfterLast at)) before h = refl
-written-late (refused (ReadAnswer.VariableAbove at)) before h = refl
-written-late (refused (ReadAnswer.EntryOver at)) before h = refl
-written-late (refused (ReadAnswer.EndsEarly at)) before h = refl
+written-late (refused (ReadAnswer.TokenBehind at)) before h = refl
+written-late (refused (ReadAnswer.TokenOverVars at)) before h = refl
+written-late (refused (ReadAnswer.ManyTokens at)) before h = refl
+written-late (refused (ReadAnswer.ShortText at)) before h = refl
 
 -- ---- the three ways a reading ends
 
@@ -226,7 +226,7 @@ count-is (accepted s es) = refl
 count-is (refused a) = refl
 
 module _ (text : List ℕ) (before : List ℤ) where
-  pub read-short : length before < maxEntries → (r : Reading) → r ≡ returned (refused ReadAnswer.BufferShort) → Reads text before r before
+  pub read-short : length before < maxEntries → (r : Reading) → r ≡ returned (refused ReadAnswer.ShortBuffer) → Reads text before r before
   unfolding readingOf entriesAfter judge
   read-short h r e = record {
     result-is = rw (lt-ltb (length before) maxEntries h) e;
@@ -234,7 +234,7 @@ module _ (text : List ℕ) (before : List ℤ) where
   }
 
   module _ (room : maxEntries ≤ length before) where
-    pub read-long : maxText < length text → (r : Reading) → r ≡ returned (refused ReadAnswer.TextLong) → Reads text before r before
+    pub read-long : maxText < length text → (r : Reading) → r ≡ returned (refused ReadAnswer.LongText) → Reads text before r before
     unfolding readingOf entriesAfter judge
     read-long h r e = record {
       result-is = rw (le-ltb (length before) maxEntries room, lt-ltb maxText (length text) h) e;

@@ -32,7 +32,7 @@ tokenStep none h c from to = Step.Refused (ReadAnswer.BadToken from)
 tokenStep (some l) h c from to = entryStep h c from to l
 
 abbrev pub endStep : Bool → ℕ → Step
-endStep true end = Step.Refused (ReadAnswer.EndsEarly end)
+endStep true end = Step.Refused (ReadAnswer.ShortText end)
 endStep false end = Step.Ended
 
 abbrev pub stepAt : List Piece → Header → ℕ → Cursor → Step

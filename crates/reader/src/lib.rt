@@ -39,7 +39,7 @@ fn read_header(text: &[u8], from: usize, to: usize, entries: &mut [i32]) -> Read
         return refused(ReadAnswer::BadHeader(from));
     };
     if MAX_VARS < h.vars || MAX_CLAUSES < h.clauses {
-        return refused(ReadAnswer::HeaderLarge(from));
+        return refused(ReadAnswer::LargeHeader(from));
     }
     read_tokens(text, h, to + 1, entries)
 }
@@ -61,10 +61,10 @@ pub fn read(text: &[u8], entries: &mut [i32]) -> Reading
     ensures { λ r. ⌜ Reads (now (text .entry)) (now (entries .entry)) r (now (entries .exit)) ⌝ }
 {
     if entries.len() < MAX_ENTRIES {
-        return refused(ReadAnswer::BufferShort);
+        return refused(ReadAnswer::ShortBuffer);
     }
     if MAX_TEXT < text.len() {
-        return refused(ReadAnswer::TextLong);
+        return refused(ReadAnswer::LongText);
     }
     let r = read_text(text, entries);
     let n = r.entries;

@@ -46,13 +46,13 @@ fn judge_entry(h: Header, c: Cursor, from: usize, to: usize, e: Entry) -> Step
     ensures { λ r. ⌜ r ≡ entryStep h c from to (valueOf e) ⌝ }
 {
     if h.clauses <= c.clauses {
-        return Step::Refused(ReadAnswer::TokenAfterLast(from));
+        return Step::Refused(ReadAnswer::TokenBehind(from));
     }
     if h.vars < e.number {
-        return Step::Refused(ReadAnswer::VariableAbove(from));
+        return Step::Refused(ReadAnswer::TokenOverVars(from));
     }
     if MAX_ENTRIES <= c.entries {
-        return Step::Refused(ReadAnswer::EntryOver(from));
+        return Step::Refused(ReadAnswer::ManyTokens(from));
     }
     let mut clauses = c.clauses;
     if e.number == 0 {
@@ -75,7 +75,7 @@ fn next_step(text: &[u8], h: Header, c: Cursor) -> Step
     let from = find(text, Wanted::NoBlank, at);
     if text.len() <= from {
         if c.clauses < h.clauses {
-            return Step::Refused(ReadAnswer::EndsEarly(text.len()));
+            return Step::Refused(ReadAnswer::ShortText(text.len()));
         }
         return Step::Ended;
     }

@@ -21,7 +21,7 @@ use Rattle.rules.specs.Numbers.{maxClauses, maxEntries}
 use Rattle.rules.specs.Meaning.{varOf}
 use Rattle.rules.specs.Reading.{isZero}
 use Rattle.rules.specs.Answer.{Given, isEnded, isAbove, refusalOf}
-use Rattle.rules.specs.RunRefusals.{Lent, Listed, Accepted, RunRefuses, list-long, not-ended, zero-over, variable-above}
+use Rattle.rules.specs.RunRefusals.{Lent, Listed, Accepted, RunRefuses, list-long, not-ended, zero-over, entry-over-vars}
 use Rattle.rules.proofs.ListLaws.{none-of-any, count-zero, eqz-sound}
 use Rattle.rules.proofs.AnswerLaws.{Nth, nthIndex-split, isEnded-last}
 use Rattle.rules.proofs.RefusedRuns.{run-refused, run-accepted}
@@ -75,11 +75,11 @@ module _ (g : Given) (w : Lent g) where
         listed : Listed g
         listed = record { lent = w; entries-fit = short; ended = ended; clauses-fit = nth-above isZero (g .entries) maxClauses few }
 
-        pub above-found : nthIndex (isAbove (g .vars)) (g .entries) 0 < length (g .entries) → refusal.Refused (RunAnswer.VariableAbove (nthIndex (isAbove (g .vars)) (g .entries) 0)) ≡ found (refusalOf g)
+        pub above-found : nthIndex (isAbove (g .vars)) (g .entries) 0 < length (g .entries) → refusal.Refused (RunAnswer.EntryOverVars (nthIndex (isAbove (g .vars)) (g .entries) 0)) ≡ found (refusalOf g)
         above-found h =
             let p = isAbove (g .vars) in
             let n = nthIndex-split p (g .entries) 0 (nth-below p (g .entries) 0 h) in
-            rw (n .index) (refused-is g (variable-above listed (n .front) (n .this) (n .back) (n .split) (λ k i. ltb-false _ _ (none-of-any p (count-zero p (n .front) (n .before)) i)) (ltb-true _ _ (n .passes))))
+            rw (n .index) (refused-is g (entry-over-vars listed (n .front) (n .this) (n .back) (n .split) (λ k i. ltb-false _ _ (none-of-any p (count-zero p (n .front) (n .before)) i)) (ltb-true _ _ (n .passes))))
 
         pub list-found : length (g .entries) ≤ nthIndex (isAbove (g .vars)) (g .entries) 0 → refusal.Accepted ≡ found (refusalOf g)
         list-found h =

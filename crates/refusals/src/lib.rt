@@ -80,7 +80,7 @@ fn refuse_list(entries: &[i32], vars: u32) -> Refusal
     }
     let above = first_above(entries, vars);
     if above < entries.len() {
-        return Refusal::Refused(rules::RunAnswer::VariableAbove(above));
+        return Refusal::Refused(rules::RunAnswer::EntryOverVars(above));
     }
     Refusal::Accepted
 }
@@ -91,19 +91,19 @@ pub fn refuse(entries: &[i32], vars: u32, limit: u32, status: &[u8], log: &[u32]
     ensures { λ r. ⌜ ((budget : ℕ) → r ≡ found (refusalOf (given (now (entries .entry)) vars budget limit (now (status .entry)) (now (log .entry))))) ⌝ }
 {
     if rules::MAX_VARS < vars {
-        return Refusal::Refused(rules::RunAnswer::OutOfLimits);
+        return Refusal::Refused(rules::RunAnswer::BadLimits);
     }
     if limit == 0 {
-        return Refusal::Refused(rules::RunAnswer::OutOfLimits);
+        return Refusal::Refused(rules::RunAnswer::BadLimits);
     }
     if rules::MAX_CHUNK < limit {
-        return Refusal::Refused(rules::RunAnswer::OutOfLimits);
+        return Refusal::Refused(rules::RunAnswer::BadLimits);
     }
     if status.len() < vars as usize {
-        return Refusal::Refused(rules::RunAnswer::BufferShort);
+        return Refusal::Refused(rules::RunAnswer::ShortBuffer);
     }
     if log.len() < 6 * (vars as usize + 1) {
-        return Refusal::Refused(rules::RunAnswer::BufferShort);
+        return Refusal::Refused(rules::RunAnswer::ShortBuffer);
     }
     refuse_list(entries, vars)
 }

@@ -24,7 +24,7 @@ use Rattle.rules.specs.Numbers.{maxVars, maxClauses, maxEntries, maxChun
 use Rattle.rules.specs.Meaning.{varOf}
 use Rattle.rules.specs.Reading.{isZero}
 use Rattle.rules.specs.Answer.{Given, logLength, isEnded, isAbove, refusalOf}
-use Rattle.rules.specs.RunRefusals.{InLimits, Lent, Listed, Accepted, RunRefuses, out-of-limits, buffer-short, list-long, not-ended, zero-over, variable-above}
+use Rattle.rules.specs.RunRefusals.{InLimits, Lent, Listed, Accepted, RunRefuses, bad-limits, short-buffer, list-long, not-ended, zero-over, entry-over-vars}
 use Rattle.rules.proofs.ListLaws.{both, never, any-sound, any-complete, none-of-any, any-of-none, eqz-sound}
 
 -- ---- the element that passes and has n passing elements before it

@@ -108,9 +108,9 @@ module _ {s : Sizes} where
 
 pub data Stop (s : Sizes) (k n : ℕ) (t : Piece) : ReadAnswer → Type 0 where
   bad : ((l : ℤ) → Token (t .bytes) l → ⊥) → Stop s k n t (ReadAnswer.BadToken (t .at))
-  after-last : (l : ℤ) → Token (t .bytes) l → s .clauses ≤ k → Stop s k n t (ReadAnswer.TokenAfterLast (t .at))
-  above : (l : ℤ) → Token (t .bytes) l → k < s .clauses → s .vars < varOf l → Stop s k n t (ReadAnswer.VariableAbove (t .at))
-  over : (l : ℤ) → Token (t .bytes) l → k < s .clauses → varOf l ≤ s .vars → maxEntries ≤ n → Stop s k n t (ReadAnswer.EntryOver (t .at))
+  after-last : (l : ℤ) → Token (t .bytes) l → s .clauses ≤ k → Stop s k n t (ReadAnswer.TokenBehind (t .at))
+  above : (l : ℤ) → Token (t .bytes) l → k < s .clauses → s .vars < varOf l → Stop s k n t (ReadAnswer.TokenOverVars (t .at))
+  over : (l : ℤ) → Token (t .bytes) l → k < s .clauses → varOf l ≤ s .vars → maxEntries ≤ n → Stop s k n t (ReadAnswer.ManyTokens (t .at))
 
 -- the first token that is refused, behind tokens that say es
 pub record Stopped (s : Sizes) (k n : ℕ) (ts : List Piece) : Type 0 where
@@ -131,15 +131,15 @@ module _ (s : Sizes) where
       Cases = ((l : ℤ) × Token (t .bytes) l × Fits s k n l) ⊎ ((a : ReadAnswer) × Stop s k n t a)
 
       entries : (l : ℤ) → Token (t .bytes) l → k < s .clauses → varOf l ≤ s .vars → (maxEntries ≤ n) ⊎ (n < maxEntries) → Cases
-      entries l w h u (inl o) = inr (ReadAnswer.EntryOver (t .at), over l w h u o)
+      entries l w h u (inl o) = inr (ReadAnswer.ManyTokens (t .at), over l w h u o)
       entries l w h u (inr m) = inl (l, w, record { not-behind = h; up-to = u; most = m })
 
       vars : (l : ℤ) → Token (t .bytes) l → k < s .clauses → (varOf l ≤ s .vars) ⊎ (s .vars < varOf l) → Cases
       vars l w h (inl u) = entries l w h u (le-or-lt maxEntries n)
-      vars l w h (inr u) = inr (ReadAnswer.VariableAbove (t .at), above l w h u)
+      vars l w h (inr u) = inr (ReadAnswer.TokenOverVars (t .at), above l w h u)
 
       clauses : (l : ℤ) → Token (t .bytes) l → (s .clauses ≤ k) ⊎ (k < s .clauses) → Cases
-      clauses l w (inl h) = inr (ReadAnswer.TokenAfterLast (t .at), after-last l w h)
+      clauses l w (inl h) = inr (ReadAnswer.TokenBehind (t .at), after-last l w h)
       clauses l w (inr h) = vars l w h (le-or-lt (varOf l) (s .vars))
 
       go : (o : Option ℤ) → entryOf (t .bytes) ≡ o → Cases

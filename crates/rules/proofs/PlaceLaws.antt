@@ -18,7 +18,7 @@ use Rattle.rules.specs.Lists.{In, cut, sumOf}
 use Rattle.rules.specs.Numbers.{maxText, readPlace}
 use Rattle.rules.specs.Text.{Piece, Sizes, isEmpty, isBlank, placedFrom, tokensFrom}
 use Rattle.rules.specs.Reading.{behind}
-use Rattle.rules.specs.Refusals.{FirstLine, Headed, AtToken, Refuses, buffer-short, text-long, no-header, bad-header, header-large, bad-token, token-after-last, variable-above, entry-over, ends-early}
+use Rattle.rules.specs.Refusals.{FirstLine, Headed, AtToken, Refuses, short-buffer, long-text, no-header, bad-header, large-header, bad-token, token-behind, token-over-vars, many-tokens, short-text}
 use Rattle.rules.proofs.ListLaws.{keep-sound}
 use Rattle.rules.proofs.CutLaws.{Cut, last, piece, cut-exists, nil-not-append}
 use Rattle.rules.proofs.LineLaws.{first-line-sound}
@@ -65,13 +65,13 @@ at-token-place {text = text} {t = t} w =
     omega (arith, token-place n (drop n text) i, length-drop n text, behind-text n text i, w .begun .text-fits)
 
 pub refuses-place : {room : ℕ} {text : List ℕ} {a : ReadAnswer} → Refuses room text a → readPlace a ≤ maxText
-refuses-place (buffer-short h) = omega arith
-refuses-place (text-long h k) = omega arith
+refuses-place (short-buffer h) = omega arith
+refuses-place (long-text h k) = omega arith
 refuses-place (no-header b h) = b .text-fits
 refuses-place (bad-header line b f h) = omega (arith, line-place f, b .text-fits)
-refuses-place (header-large line v c b f h k) = omega (arith, line-place f, b .text-fits)
+refuses-place (large-header line v c b f h k) = omega (arith, line-place f, b .text-fits)
 refuses-place (bad-token s es t w h) = at-token-place w
-refuses-place (token-after-last s es t l w h k) = at-token-place w
-refuses-place (variable-above s es t l w h k u) = at-token-place w
-refuses-place (entry-over s es t l w h k u m) = at-token-place w
-refuses-place (ends-early line s es b h f k) = b .text-fits
+refuses-place (token-behind s es t l w h k) = at-token-place w
+refuses-place (token-over-vars s es t l w h k u) = at-token-place w
+refuses-place (many-tokens s es t l w h k u m) = at-token-place w
+refuses-place (short-text line s es b h f k) = b .text-fits

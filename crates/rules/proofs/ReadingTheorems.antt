@@ -27,7 +27,7 @@ use Rattle.rules.specs.Numbers.{maxEntries, readNumber, readPlace}
 use Rattle.rules.specs.Text.{Sizes, linesOf, tokensFrom, numeral, headerOf, entryOf}
 use Rattle.rules.specs.Reading.{Judged, accepted, refused, judge, judgeTokens, judgeLines, returned, readingOf, filled, written, entriesAfter, Reads}
 use Rattle.rules.specs.Grammar.{Dimacs}
-use Rattle.rules.specs.Refusals.{Begun, Refuses, buffer-short, text-long, no-header, bad-header, header-large, bad-token, token-after-last, variable-above, entry-over, ends-early}
+use Rattle.rules.specs.Refusals.{Begun, Refuses, short-buffer, long-text, no-header, bad-header, large-header, bad-token, token-behind, token-over-vars, many-tokens, short-text}
 use Rattle.rules.proofs.Quoted.{quoted}
 use Rattle.rules.proofs.VerdictLaws.{Verdict, refuses, accepts, verdict-of-judge}
 use Rattle.rules.proofs.GrammarLaws.{dimacs-of-whole, accepted-sound, accepted-complete}
@@ -120,16 +120,16 @@ module _ (text : List ℕ) (before : List ℤ) where
   length-cleared b = length-filled [] before (omega arith) (b .room-fits)
 
   length-refused : {a : ReadAnswer} → Refuses (length before) text a → length (written (refused a) before) ≡ length before
-  length-refused (buffer-short h) = refl
-  length-refused (text-long h k) = refl
+  length-refused (short-buffer h) = refl
+  length-refused (long-text h k) = refl
   length-refused (no-header b h) = length-cleared b
   length-refused (bad-header line b f h) = length-cleared b
-  length-refused (header-large line v c b f h k) = length-cleared b
+  length-refused (large-header line v c b f h k) = length-cleared b
   length-refused (bad-token s es t w h) = length-cleared (w .begun)
-  length-refused (token-after-last s es t l w h k) = length-cleared (w .begun)
-  length-refused (variable-above s es t l w h k u) = length-cleared (w .begun)
-  length-refused (entry-over s es t l w h k u m) = length-cleared (w .begun)
-  length-refused (ends-early line s es b h f k) = length-cleared b
+  length-refused (token-behind s es t l w h k) = length-cleared (w .begun)
+  length-refused (token-over-vars s es t l w h k u) = length-cleared (w .begun)
+  length-refused (many-tokens s es t l w h k u m) = length-cleared (w .begun)
+  length-refused (short-text line s es b h f k) = length-cleared b
 
   -- A reading writes nothing beyond the buffer that is lent.
   pub length-entriesAfter : length (entriesAfter text before) ≡ length before
@@ -151,15 +151,15 @@ refused-keeps text before h = go (judge (length before) text) (⊎-elim (λ e. o
     go : (j : Judged) → 1 ≤ readNumber (returned j .answer) → readNumber (returned j .answer) ≤ 2 → written j before ≡ before
     go (accepted s es) h k = absurd (omega arith)
     go (refused ReadAnswer.Accepted) h k = refl
-    go (refused ReadAnswer.BufferShort) h k = refl
-    go (refused ReadAnswer.TextLong) h k = refl
+    go (refused ReadAnswer.ShortBuffer) h k = refl
+    go (refused ReadAnswer.LongText) h k = refl
     go (refused (ReadAnswer.BadHeader at)) h k = absurd (omega arith)
-    go (refused (ReadAnswer.HeaderLarge at)) h k = absurd (omega arith)
+    go (refused (ReadAnswer.LargeHeader at)) h k = absurd (omega arith)
     go (refused (ReadAnswer.BadToken at)) h k = absurd (omega arith)
-    go (refused (ReadAnswer.TokenAfterLast at)) h k = absurd (omega arith)
-    go (refused (ReadAnswer.VariableAbove at)) h k = absurd (omega arith)
-    go (refused (ReadAnswer.EntryOver at)) h k = absurd (omega arith)
-    go (refused (ReadAnswer.EndsEarly at)) h k = absurd (omega arith)
+    go (refused (ReadAnswer.TokenBehind at)) h k = absurd (omega arith)
+    go (refused (ReadAnswer.TokenOverVars at)) h k = absurd (omega arith)
+    go (refused (ReadAnswer.ManyTokens at)) h k = absurd (omega arith)
+    go (refused (ReadAnswer.ShortText at)) h k = absurd (omega arith)
 
 -- After 3 to 9 the first 4,096 entries are zeros, and the rest is as it was.
 pub refused-clears : (text : List ℕ) (before : List ℤ) → 3 ≤ readNumber (readingOf text before .answer)
@@ -170,15 +170,15 @@ refused-clears text before h = go (judge (length before) text) h
     go : (j : Judged) → 3 ≤ readNumber (returned j .answer) → written j before ≡ replicate 4096 (pos 0) ++ drop 4096 before
     go (accepted s es) h = absurd (omega arith)
     go (refused ReadAnswer.Accepted) h = absurd (omega arith)
-    go (refused ReadAnswer.BufferShort) h = absurd (omega arith)
-    go (refused ReadAnswer.TextLong) h = absurd (omega arith)
+    go (refused ReadAnswer.ShortBuffer) h = absurd (omega arith)
+    go (refused ReadAnswer.LongText) h = absurd (omega arith)
     go (refused (ReadAnswer.BadHeader at)) h = refl
-    go (refused (ReadAnswer.HeaderLarge at)) h = refl
+    go (refused (ReadAnswer.LargeHeader at)) h = refl
     go (refused (ReadAnswer.BadToken at)) h = refl
-    go (refused (ReadAnswer.TokenAfterLast at)) h = refl
-    go (refused (ReadAnswer.VariableAbove at)) h = refl
-    go (refused (ReadAnswer.EntryOver at)) h = refl
-    go (refused (ReadAnswer.EndsEarly at)) h = refl
+    go (refused (ReadAnswer.TokenBehind at)) h = refl
+    go (refused (ReadAnswer.TokenOverVars at)) h = refl
+    go (refused (ReadAnswer.ManyTokens at)) h = refl
+    go (refused (ReadAnswer.ShortText at)) h = refl
 
 -- After every refusal V, C and the entry count are zero.
 pub refused-counts : (text : List ℕ) (before : List ℤ) → 1 ≤ readNumber (readingOf text before .answer)

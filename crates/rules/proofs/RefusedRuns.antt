@@ -21,7 +21,7 @@ use Rattle.rules.specs.Numbers.{maxClauses, maxEntries}
 use Rattle.rules.specs.Meaning.{varOf}
 use Rattle.rules.specs.Reading.{isZero}
 use Rattle.rules.specs.Answer.{Given, logLength, isEnded, isAbove, refusalOf}
-use Rattle.rules.specs.RunRefusals.{InLimits, Lent, Listed, Accepted, RunRefuses, out-of-limits, buffer-short, list-long, not-ended, zero-over, variable-above}
+use Rattle.rules.specs.RunRefusals.{InLimits, Lent, Listed, Accepted, RunRefuses, bad-limits, short-buffer, list-long, not-ended, zero-over, entry-over-vars}
 use Rattle.rules.proofs.ListLaws.{both, never, any-sound, any-complete, none-of-any, any-of-none, count-append, count-pos, count-zero, count-of-none, eqz-sound}
 use Rattle.rules.proofs.AnswerLaws.{Nth, nthIndex-at, nthIndex-split, isEnded-snoc, isEnded-last, limits-test, room-test, limits-sound, limits-complete, limits-false, limits-of, room-sound, room-complete, room-false, room-of, list-false}
 
@@ -36,12 +36,12 @@ zero-is : (l : ℤ) → isZero l ≡ true → l ≡ pos 0
 zero-is l h = eqz-sound l (pos 0) h
 
 module _ (g : Given) where
-  above-judged : Listed g → (b : Bool) → any (isAbove (g .vars)) (g .entries) ≡ b → Judges g (orNext b (RunAnswer.VariableAbove (nthIndex (isAbove (g .vars)) (g .entries) 0)) none)
+  above-judged : Listed g → (b : Bool) → any (isAbove (g .vars)) (g .entries) ≡ b → Judges g (orNext b (RunAnswer.EntryOverVars (nthIndex (isAbove (g .vars)) (g .entries) 0)) none)
   above-judged w false e = record { listed = w; up-to = λ l h. ltb-false _ _ (none-of-any (isAbove (g .vars)) e h) }
   above-judged w true e =
       let (x, i, t) = any-sound (isAbove (g .vars)) (g .entries) e in
       let n = nthIndex-split (isAbove (g .vars)) (g .entries) 0 (count-pos (isAbove (g .vars)) i t) in
-      rw (n .index) (variable-above w (n .front) (n .this) (n .back) (n .split) (λ k h. ltb-false _ _ (none-of-any (isAbove (g .vars)) (count-zero (isAbove (g .vars)) (n .front) (n .before)) h)) (ltb-true _ _ (n .passes)))
+      rw (n .index) (entry-over-vars w (n .front) (n .this) (n .back) (n .split) (λ k h. ltb-false _ _ (none-of-any (isAbove (g .vars)) (count-zero (isAbove (g .vars)) (n .front) (n .before)) h)) (ltb-true _ _ (n .passes)))
 
   zeros-judged : Lent g → ltb maxEntries (length (g .entries)) ≡ false → isEnded (g .entries) ≡ true → (b : Bool) → ltb maxClauses (count isZero (g .entries)) ≡ b → (rest : Option RunAnswer) → (Listed g → Judges g rest) → Judges g (orNext b (RunAnswer.BadList (nthIndex isZero (g .entries) maxClauses)) rest)
   zeros-judged w s d false e rest f = f (list-false g w s d e)
@@ -58,13 +58,13 @@ module _ (g : Given) where
   long-judged w false e rest f = f e
   long-judged w true e rest f = list-long w (ltb-true _ _ e)
 
-  room-judged : InLimits g → (b : Bool) → room-test g ≡ b → (rest : Option RunAnswer) → (Lent g → Judges g rest) → Judges g (orNext b RunAnswer.BufferShort rest)
+  room-judged : InLimits g → (b : Bool) → room-test g ≡ b → (rest : Option RunAnswer) → (Lent g → Judges g rest) → Judges g (orNext b RunAnswer.ShortBuffer rest)
   room-judged w false e rest f = f (room-false g w e)
-  room-judged w true e rest f = buffer-short w (room-sound g e)
+  room-judged w true e rest f = short-buffer w (room-sound g e)
 
-  limits-judged : (b : Bool) → limits-test g ≡ b → (rest : Option RunAnswer) → (InLimits g → Judges g rest) → Judges g (orNext b RunAnswer.OutOfLimits rest)
+  limits-judged : (b : Bool) → limits-test g ≡ b → (rest : Option RunAnswer) → (InLimits g → Judges g rest) → Judges g (orNext b RunAnswer.BadLimits rest)
   limits-judged false e rest f = f (limits-false g e)
-  limits-judged true e rest f = out-of-limits (limits-sound g e)
+  limits-judged true e rest f = bad-limits (limits-sound g e)
 
   judged : Judges g (refusalOf g)
   unfolding refusalOf
@@ -74,13 +74,13 @@ module _ (g : Given) where
 -- ---- and back: a rule that holds decides every test before its own
 
 module _ (g : Given) where
-  lent-tests : (rest : Option RunAnswer) → Lent g → orNext (limits-test g) RunAnswer.OutOfLimits (orNext (room-test g) RunAnswer.BufferShort rest) ≡ rest
+  lent-tests : (rest : Option RunAnswer) → Lent g → orNext (limits-test g) RunAnswer.BadLimits (orNext (room-test g) RunAnswer.ShortBuffer rest) ≡ rest
   lent-tests rest w = rw (limits-of g (w .in-limits), room-of g w)
 
   refused-complete : (a : RunAnswer) → RunRefuses g a → refusalOf g ≡ some a
   unfolding refusalOf
-  refused-complete _ (out-of-limits h) = rw (limits-complete g h)
-  refused-complete _ (buffer-short w h) = rw (limits-of g w, room-complete g h)
+  refused-complete _ (bad-limits h) = rw (limits-complete g h)
+  refused-complete _ (short-buffer w h) = rw (limits-of g w, room-complete g h)
   refused-complete _ (list-long w h) = lent-tests _ w ∙ rw (lt-ltb maxEntries (length (g .entries)) h)
   refused-complete _ (not-ended w s front l q z) =
       lent-tests _ w ∙ rw (le-ltb maxEntries (length (g .entries)) s, ap isEnded q ∙ isEnded-snoc front l ∙ z)
@@ -92,7 +92,7 @@ module _ (g : Given) where
 
       at : nthIndex isZero (g .entries) maxClauses ≡ length front
       at = rw q (ap (nthIndex isZero (front ++ pos 0 ∷ back)) (sym c) ∙ nthIndex-at isZero front (pos 0) back refl)
-  refused-complete _ (variable-above w front l back q k h) =
+  refused-complete _ (entry-over-vars w front l back q k h) =
       lent-tests _ (w .lent) ∙
       rw (le-ltb maxEntries (length (g .entries)) (w .entries-fit), w .ended, le-ltb maxClauses (count isZero (g .entries)) (w .clauses-fit), some-above, at)
     where

@@ -36,22 +36,22 @@ use Rattle.rules.proofs.PrintedLaws.{table-runs}
 
 readNumber-le : (a : ReadAnswer) → readNumber a ≤ 9
 readNumber-le ReadAnswer.Accepted = omega arith
-readNumber-le ReadAnswer.BufferShort = omega arith
-readNumber-le ReadAnswer.TextLong = omega arith
+readNumber-le ReadAnswer.ShortBuffer = omega arith
+readNumber-le ReadAnswer.LongText = omega arith
 readNumber-le (ReadAnswer.BadHeader at) = omega arith
-readNumber-le (ReadAnswer.HeaderLarge at) = omega arith
+readNumber-le (ReadAnswer.LargeHeader at) = omega arith
 readNumber-le (ReadAnswer.BadToken at) = omega arith
-readNumber-le (ReadAnswer.TokenAfterLast at) = omega arith
-readNumber-le (ReadAnswer.VariableAbove at) = omega arith
-readNumber-le (ReadAnswer.EntryOver at) = omega arith
-readNumber-le (ReadAnswer.EndsEarly at) = omega arith
+readNumber-le (ReadAnswer.TokenBehind at) = omega arith
+readNumber-le (ReadAnswer.TokenOverVars at) = omega arith
+readNumber-le (ReadAnswer.ManyTokens at) = omega arith
+readNumber-le (ReadAnswer.ShortText at) = omega arith
 
 runNumber-le : (a : RunAnswer) → runNumber a ≤ 21
 runNumber-le RunAnswer.Settled = omega arith
-runNumber-le RunAnswer.BufferShort = omega arith
-runNumber-le RunAnswer.OutOfLimits = omega arith
+runNumber-le RunAnswer.ShortBuffer = omega arith
+runNumber-le RunAnswer.BadLimits = omega arith
 runNumber-le (RunAnswer.BadList at) = omega arith
-runNumber-le (RunAnswer.VariableAbove at) = omega arith
+runNumber-le (RunAnswer.EntryOverVars at) = omega arith
 runNumber-le RunAnswer.NoModel = omega arith
 runNumber-le RunAnswer.Stopped = omega arith
 

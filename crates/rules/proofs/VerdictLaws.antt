@@ -26,7 +26,7 @@ use Rattle.rules.specs.Numbers.{maxText, maxVars, maxClauses, maxEntries
 use Rattle.rules.specs.Text.{Piece, Sizes, linesOf, tokensFrom, isSkipped, headerOf}
 use Rattle.rules.specs.Reading.{Judged, accepted, refused, isZero, behind, fits, judgeEnd, judgeTokens, judgeHeader, judgeLines, judge}
 use Rattle.rules.specs.Grammar.{Header}
-use Rattle.rules.specs.Refusals.{Begun, FirstLine, Headed, Fine, AtToken, Refuses, buffer-short, text-long, no-header, bad-header, header-large, bad-token, token-after-last, variable-above, entry-over, ends-early}
+use Rattle.rules.specs.Refusals.{Begun, FirstLine, Headed, Fine, AtToken, Refuses, short-buffer, long-text, no-header, bad-header, large-header, bad-token, token-behind, token-over-vars, many-tokens, short-text}
 use Rattle.rules.proofs.ListLaws.{le-or-lt, not-true, and-left, and-right}
 use Rattle.rules.proofs.TokenLaws.{not-none}
 use Rattle.rules.proofs.HeaderLaws.{header-sound, header-complete, header-none}
@@ -117,19 +117,19 @@ module _ {room : ℕ} {text : List ℕ} where
 
   judge-of-refuses : {a : ReadAnswer} → Refuses room text a → judge room text ≡ refused a
   unfolding judge
-  judge-of-refuses (buffer-short h) = rw (lt-ltb room maxEntries h)
-  judge-of-refuses (text-long h k) = rw (le-ltb room maxEntries h, lt-ltb maxText (length text) k)
+  judge-of-refuses (short-buffer h) = rw (lt-ltb room maxEntries h)
+  judge-of-refuses (long-text h k) = rw (le-ltb room maxEntries h, lt-ltb maxText (length text) k)
   judge-of-refuses (no-header b h) = judge-begun b ∙ judgeLines-skipped text (linesOf text) h
   judge-of-refuses (bad-header line b f h) =
       judge-first b f ∙ ap (λ (o : Option Sizes). judgeHeader o text line) (header-none (line .bytes) (first-line-sound f .one-line) h)
-  judge-of-refuses (header-large line v c b f h k) =
+  judge-of-refuses (large-header line v c b f h k) =
       judge-first b f ∙ ap (λ (o : Option Sizes). judgeHeader o text line) (header-complete h) ∙ rw (too-large v c k)
   judge-of-refuses (bad-token s es t w h) = judge-at-token w (bad h)
-  judge-of-refuses (token-after-last s es t l w h k) = judge-at-token w (after-last l h (omega arith))
-  judge-of-refuses (variable-above s es t l w h k u) = judge-at-token w (above l h (omega arith) u)
-  judge-of-refuses (entry-over s es t l w h k u m) = judge-at-token w (over l h (omega arith) u (omega arith))
-  judge-of-refuses (ends-early line s es b h f k) =
-      judge-end b h f ∙ rw (lt-ltb (count isZero es) (s .clauses) k) (withEntries-refused es (ReadAnswer.EndsEarly (length text)))
+  judge-of-refuses (token-behind s es t l w h k) = judge-at-token w (after-last l h (omega arith))
+  judge-of-refuses (token-over-vars s es t l w h k u) = judge-at-token w (above l h (omega arith) u)
+  judge-of-refuses (many-tokens s es t l w h k u m) = judge-at-token w (over l h (omega arith) u (omega arith))
+  judge-of-refuses (short-text line s es b h f k) =
+      judge-end b h f ∙ rw (lt-ltb (count isZero es) (s .clauses) k) (withEntries-refused es (ReadAnswer.ShortText (length text)))
 
   pub judge-of-verdict : {j : Judged} → Verdict room text j → judge room text ≡ j
   judge-of-verdict (refuses r) = judge-of-refuses r
@@ -148,15 +148,15 @@ module _ (room : ℕ) (text : List ℕ) where
 
       go : {a : ReadAnswer} → Stop s (0 + count isZero (d .es)) (0 + length (d .es)) (d .token) a → Refuses room text a
       go (bad f) = bad-token s (d .es) (d .token) at-token f
-      go (after-last l w k) = token-after-last s (d .es) (d .token) l at-token w (omega (arith, count-of-passes (d .passes) (omega arith)))
-      go (above l w k u) = variable-above s (d .es) (d .token) l at-token w (omega arith) u
-      go (over l w k u m) = entry-over s (d .es) (d .token) l at-token w (omega arith) u (omega (arith, fine-of-passes (d .passes) .most))
+      go (after-last l w k) = token-behind s (d .es) (d .token) l at-token w (omega (arith, count-of-passes (d .passes) (omega arith)))
+      go (above l w k u) = token-over-vars s (d .es) (d .token) l at-token w (omega arith) u
+      go (over l w k u m) = many-tokens s (d .es) (d .token) l at-token w (omega arith) u (omega (arith, fine-of-passes (d .passes) .most))
 
   verdict-of-end : (line : Piece) (s : Sizes) (es : List ℤ) → Begun room text → Headed text line s
       → Passes s 0 0 (tokensOf text line) es → (s .clauses ≤ count isZero es) ⊎ (count isZero es < s .clauses) → Judgement room text
   verdict-of-end line s es b h p (inl k) =
       (accepted s es, accepts (record { begun = b; line = line; headed = h; fine = fine-of-passes p; exactly = omega (arith, count-of-passes p (omega arith)) }))
-  verdict-of-end line s es b h p (inr k) = (refused (ReadAnswer.EndsEarly (length text)), refuses (ends-early line s es b h (fine-of-passes p) k))
+  verdict-of-end line s es b h p (inr k) = (refused (ReadAnswer.ShortText (length text)), refuses (short-text line s es b h (fine-of-passes p) k))
 
   verdict-of-headed : (line : Piece) (s : Sizes) → Begun room text → Headed text line s → Judgement room text
   verdict-of-headed line s b h = go (tokens-cases s 0 0 (tokensOf text line))
@@ -170,7 +170,7 @@ module _ (room : ℕ) (text : List ℕ) where
     where
       large : (s : Sizes) → Header (line .bytes) (s .vars) (s .clauses) → (maxVars < s .vars) ⊎ (maxClauses < s .clauses)
           → Judgement room text
-      large s h k = (refused (ReadAnswer.HeaderLarge (line .at)), refuses (header-large line (s .vars) (s .clauses) b f h k))
+      large s h k = (refused (ReadAnswer.LargeHeader (line .at)), refuses (large-header line (s .vars) (s .clauses) b f h k))
 
       sizes : (s : Sizes) → Header (line .bytes) (s .vars) (s .clauses) → (s .vars ≤ maxVars) ⊎ (maxVars < s .vars)
           → (s .clauses ≤ maxClauses) ⊎ (maxClauses < s .clauses) → Judgement room text
@@ -190,8 +190,8 @@ module _ (room : ℕ) (text : List ℕ) where
       lines b (inr f) = verdict-of-first (f .0) b (f .1)
 
       go : (maxEntries ≤ room) ⊎ (room < maxEntries) → (length text ≤ maxText) ⊎ (maxText < length text) → Judgement room text
-      go (inr h) t = (refused ReadAnswer.BufferShort, refuses (buffer-short h))
-      go (inl h) (inr k) = (refused ReadAnswer.TextLong, refuses (text-long h k))
+      go (inr h) t = (refused ReadAnswer.ShortBuffer, refuses (short-buffer h))
+      go (inl h) (inr k) = (refused ReadAnswer.LongText, refuses (long-text h k))
       go (inl h) (inl k) = lines (record { room-fits = h; text-fits = k }) (first-line-exists text)
 
   pub verdict-of-judge : {j : Judged} → judge room text ≡ j → Verdict room text j

@@ -46,12 +46,12 @@ isAbove vars l = ltb vars (varOf l)
 
 abbrev pub runRules : Given → List (Check RunAnswer)
 runRules g =
-    check (ltb maxVars (g .vars) || (eqb (g .limit) 0 || ltb maxChunk (g .limit))) RunAnswer.OutOfLimits ∷
-    check (ltb (length (g .status)) (g .vars) || ltb (length (g .log)) (logLength (g .vars))) RunAnswer.BufferShort ∷
+    check (ltb maxVars (g .vars) || (eqb (g .limit) 0 || ltb maxChunk (g .limit))) RunAnswer.BadLimits ∷
+    check (ltb (length (g .status)) (g .vars) || ltb (length (g .log)) (logLength (g .vars))) RunAnswer.ShortBuffer ∷
     check (ltb maxEntries (length (g .entries))) (RunAnswer.BadList maxEntries) ∷
     check (not (isEnded (g .entries))) (RunAnswer.BadList (length (g .entries))) ∷
     check (ltb maxClauses (count isZero (g .entries))) (RunAnswer.BadList (nthIndex isZero (g .entries) maxClauses)) ∷
-    check (any (isAbove (g .vars)) (g .entries)) (RunAnswer.VariableAbove (nthIndex (isAbove (g .vars)) (g .entries) 0)) ∷
+    check (any (isAbove (g .vars)) (g .entries)) (RunAnswer.EntryOverVars (nthIndex (isAbove (g .vars)) (g .entries) 0)) ∷
     []
 
 unfoldable pub refusalOf : Given → Option RunAnswer

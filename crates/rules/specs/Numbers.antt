@@ -30,43 +30,43 @@ outcomeNumber Outcome.Stopped = 3
 -- the table of numbers and places, for a reading
 abbrev pub readNumber : ReadAnswer → ℕ
 readNumber ReadAnswer.Accepted = 0
-readNumber ReadAnswer.BufferShort = 1
-readNumber ReadAnswer.TextLong = 2
+readNumber ReadAnswer.ShortBuffer = 1
+readNumber ReadAnswer.LongText = 2
 readNumber (ReadAnswer.BadHeader at) = 3
-readNumber (ReadAnswer.HeaderLarge at) = 4
+readNumber (ReadAnswer.LargeHeader at) = 4
 readNumber (ReadAnswer.BadToken at) = 5
-readNumber (ReadAnswer.TokenAfterLast at) = 6
-readNumber (ReadAnswer.VariableAbove at) = 7
-readNumber (ReadAnswer.EntryOver at) = 8
-readNumber (ReadAnswer.EndsEarly at) = 9
+readNumber (ReadAnswer.TokenBehind at) = 6
+readNumber (ReadAnswer.TokenOverVars at) = 7
+readNumber (ReadAnswer.ManyTokens at) = 8
+readNumber (ReadAnswer.ShortText at) = 9
 
 abbrev pub readPlace : ReadAnswer → ℕ
 readPlace ReadAnswer.Accepted = 0
-readPlace ReadAnswer.BufferShort = 0
-readPlace ReadAnswer.TextLong = maxText
+readPlace ReadAnswer.ShortBuffer = 0
+readPlace ReadAnswer.LongText = maxText
 readPlace (ReadAnswer.BadHeader at) = at
-readPlace (ReadAnswer.HeaderLarge at) = at
+readPlace (ReadAnswer.LargeHeader at) = at
 readPlace (ReadAnswer.BadToken at) = at
-readPlace (ReadAnswer.TokenAfterLast at) = at
-readPlace (ReadAnswer.VariableAbove at) = at
-readPlace (ReadAnswer.EntryOver at) = at
-readPlace (ReadAnswer.EndsEarly at) = at
+readPlace (ReadAnswer.TokenBehind at) = at
+readPlace (ReadAnswer.TokenOverVars at) = at
+readPlace (ReadAnswer.ManyTokens at) = at
+readPlace (ReadAnswer.ShortText at) = at
 
 -- and for a run
 abbrev pub runNumber : RunAnswer → ℕ
 runNumber RunAnswer.Settled = 0
-runNumber RunAnswer.BufferShort = 1
-runNumber RunAnswer.OutOfLimits = 10
+runNumber RunAnswer.ShortBuffer = 1
+runNumber RunAnswer.BadLimits = 10
 runNumber (RunAnswer.BadList at) = 11
-runNumber (RunAnswer.VariableAbove at) = 12
+runNumber (RunAnswer.EntryOverVars at) = 12
 runNumber RunAnswer.NoModel = 20
 runNumber RunAnswer.Stopped = 21
 
 abbrev pub runPlace : RunAnswer → ℕ
 runPlace RunAnswer.Settled = 0
-runPlace RunAnswer.BufferShort = 0
-runPlace RunAnswer.OutOfLimits = 0
+runPlace RunAnswer.ShortBuffer = 0
+runPlace RunAnswer.BadLimits = 0
 runPlace (RunAnswer.BadList at) = at
-runPlace (RunAnswer.VariableAbove at) = at
+runPlace (RunAnswer.EntryOverVars at) = at
 runPlace RunAnswer.NoModel = 0
 runPlace RunAnswer.Stopped = 0

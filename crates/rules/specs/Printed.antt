@@ -90,10 +90,10 @@ abbrev pub tableBy : RunAnswer → ℕ → Report → List ℕ → List ℕ
 tableBy RunAnswer.Settled vars r ss = answerLine vars r ++ statusLines 1 ss
 tableBy RunAnswer.Stopped vars r ss = answerLine vars r ++ statusLines 1 ss
 tableBy RunAnswer.NoModel vars r ss = answerLine vars r
-tableBy RunAnswer.BufferShort vars r ss = refusedLine (runNumber (r .answer)) (runPlace (r .answer))
-tableBy RunAnswer.OutOfLimits vars r ss = refusedLine (runNumber (r .answer)) (runPlace (r .answer))
+tableBy RunAnswer.ShortBuffer vars r ss = refusedLine (runNumber (r .answer)) (runPlace (r .answer))
+tableBy RunAnswer.BadLimits vars r ss = refusedLine (runNumber (r .answer)) (runPlace (r .answer))
 tableBy (RunAnswer.BadList at) vars r ss = refusedLine (runNumber (r .answer)) (runPlace (r .answer))
-tableBy (RunAnswer.VariableAbove at) vars r ss = refusedLine (runNumber (r .answer)) (runPlace (r .answer))
+tableBy (RunAnswer.EntryOverVars at) vars r ss = refusedLine (runNumber (r .answer)) (runPlace (r .answer))
 
 abbrev pub tableOfRun : ℕ → Report → List ℕ → List ℕ
 tableOfRun vars r ss = tableBy (r .answer) vars r ss

@@ -31,9 +31,9 @@ isZero l = eqz l (pos 0)
 
 abbrev pub entryRules : Sizes → ℕ → ℕ → ℕ → ℤ → List (Check ReadAnswer)
 entryRules s k n at l =
-    check (leb (s .clauses) k) (ReadAnswer.TokenAfterLast at) ∷
-    check (ltb (s .vars) (varOf l)) (ReadAnswer.VariableAbove at) ∷
-    check (leb maxEntries n) (ReadAnswer.EntryOver at) ∷
+    check (leb (s .clauses) k) (ReadAnswer.TokenBehind at) ∷
+    check (ltb (s .vars) (varOf l)) (ReadAnswer.TokenOverVars at) ∷
+    check (leb maxEntries n) (ReadAnswer.ManyTokens at) ∷
     []
 
 abbrev pub withEntry : ℤ → Judged → Judged
@@ -45,7 +45,7 @@ judgeToken none s k n at rest = refused (ReadAnswer.BadToken at)
 judgeToken (some l) s k n at rest = unless (firstOf (entryRules s k n at l)) (withEntry l (rest (countIf (isZero l) k)))
 
 abbrev pub judgeEnd : Bool → Sizes → ℕ → Judged
-judgeEnd true s end = refused (ReadAnswer.EndsEarly end)
+judgeEnd true s end = refused (ReadAnswer.ShortText end)
 judgeEnd false s end = accepted s []
 
 -- inside a clause C clauses are not yet complete: a token behind the last one was refused
@@ -60,7 +60,7 @@ behind line = line .at + length (line .bytes) + 1
 
 abbrev pub judgeSizes : Bool → Sizes → List ℕ → Piece → Judged
 judgeSizes true s text line = judgeTokens s (length text) 0 0 (tokensFrom (behind line) (drop (behind line) text))
-judgeSizes false s text line = refused (ReadAnswer.HeaderLarge (line .at))
+judgeSizes false s text line = refused (ReadAnswer.LargeHeader (line .at))
 
 abbrev pub fits : Sizes → Bool
 fits s = leb (s .vars) maxVars && leb (s .clauses) maxClauses
@@ -82,7 +82,7 @@ judgeLines text (line ∷ lines) = judgeLine (isSkipped line) text line (judgeLi
 unfoldable pub judge : ℕ → List ℕ → Judged
 judge room text =
     unless
-    (firstOf (check (ltb room maxEntries) ReadAnswer.BufferShort ∷ check (ltb maxText (length text)) ReadAnswer.TextLong ∷ []))
+    (firstOf (check (ltb room maxEntries) ReadAnswer.ShortBuffer ∷ check (ltb maxText (length text)) ReadAnswer.LongText ∷ []))
     (judgeLines text (linesOf text))
 
 -- what is returned: V, C and the entry count are zero if the text is refused
@@ -101,15 +101,15 @@ filled es before = es ++ replicate (maxEntries - length es) (pos 0) ++ drop maxE
 abbrev pub written : Judged → List ℤ → List ℤ
 written (accepted s es) before = filled es before
 written (refused ReadAnswer.Accepted) before = before
-written (refused ReadAnswer.BufferShort) before = before
-written (refused ReadAnswer.TextLong) before = before
+written (refused ReadAnswer.ShortBuffer) before = before
+written (refused ReadAnswer.LongText) before = before
 written (refused (ReadAnswer.BadHeader at)) before = filled [] before
-written (refused (ReadAnswer.HeaderLarge at)) before = filled [] before
+written (refused (ReadAnswer.LargeHeader at)) before = filled [] before
 written (refused (ReadAnswer.BadToken at)) before = filled [] before
-written (refused (ReadAnswer.TokenAfterLast at)) before = filled [] before
-written (refused (ReadAnswer.VariableAbove at)) before = filled [] before
-written (refused (ReadAnswer.EntryOver at)) before = filled [] before
-written (refused (ReadAnswer.EndsEarly at)) before = filled [] before
+written (refused (ReadAnswer.TokenBehind at)) before = filled [] before
+written (refused (ReadAnswer.TokenOverVars at)) before = filled [] before
+written (refused (ReadAnswer.ManyTokens at)) before = filled [] before
+written (refused (ReadAnswer.ShortText at)) before = filled [] before
 
 unfoldable pub entriesAfter : List ℕ → List ℤ → List ℤ
 entriesAfter text before = written (judge (length before) text) before

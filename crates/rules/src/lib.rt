@@ -44,15 +44,15 @@ pub enum Outcome {
 // The answer of a reading, with its place where that is not fixed. Its number and place are readNumber and readPlace.
 pub enum ReadAnswer {
     Accepted,
-    BufferShort,
-    TextLong,
+    ShortBuffer,
+    LongText,
     BadHeader(usize),
-    HeaderLarge(usize),
+    LargeHeader(usize),
     BadToken(usize),
-    TokenAfterLast(usize),
-    VariableAbove(usize),
-    EntryOver(usize),
-    EndsEarly(usize),
+    TokenBehind(usize),
+    TokenOverVars(usize),
+    ManyTokens(usize),
+    ShortText(usize),
 }
 
 // What a reading returns.
@@ -66,10 +66,10 @@ pub struct Reading {
 // The answer of a run, with its place where that is not fixed. Its number and place are runNumber and runPlace.
 pub enum RunAnswer {
     Settled,
-    BufferShort,
-    OutOfLimits,
+    ShortBuffer,
+    BadLimits,
     BadList(usize),
-    VariableAbove(usize),
+    EntryOverVars(usize),
     NoModel,
     Stopped,
 }

@@ -21,15 +21,15 @@ pub fn read_number(answer: crate::ReadAnswer) -> u32
 {
     match answer {
         crate::ReadAnswer::Accepted => 0,
-        crate::ReadAnswer::BufferShort => 1,
-        crate::ReadAnswer::TextLong => 2,
+        crate::ReadAnswer::ShortBuffer => 1,
+        crate::ReadAnswer::LongText => 2,
         crate::ReadAnswer::BadHeader(_) => 3,
-        crate::ReadAnswer::HeaderLarge(_) => 4,
+        crate::ReadAnswer::LargeHeader(_) => 4,
         crate::ReadAnswer::BadToken(_) => 5,
-        crate::ReadAnswer::TokenAfterLast(_) => 6,
-        crate::ReadAnswer::VariableAbove(_) => 7,
-        crate::ReadAnswer::EntryOver(_) => 8,
-        crate::ReadAnswer::EndsEarly(_) => 9,
+        crate::ReadAnswer::TokenBehind(_) => 6,
+        crate::ReadAnswer::TokenOverVars(_) => 7,
+        crate::ReadAnswer::ManyTokens(_) => 8,
+        crate::ReadAnswer::ShortText(_) => 9,
     }
 }
 
@@ -40,15 +40,15 @@ pub fn read_place(answer: crate::ReadAnswer) -> usize
 {
     match answer {
         crate::ReadAnswer::Accepted => 0,
-        crate::ReadAnswer::BufferShort => 0,
-        crate::ReadAnswer::TextLong => crate::MAX_TEXT,
+        crate::ReadAnswer::ShortBuffer => 0,
+        crate::ReadAnswer::LongText => crate::MAX_TEXT,
         crate::ReadAnswer::BadHeader(at) => at,
-        crate::ReadAnswer::HeaderLarge(at) => at,
+        crate::ReadAnswer::LargeHeader(at) => at,
         crate::ReadAnswer::BadToken(at) => at,
-        crate::ReadAnswer::TokenAfterLast(at) => at,
-        crate::ReadAnswer::VariableAbove(at) => at,
-        crate::ReadAnswer::EntryOver(at) => at,
-        crate::ReadAnswer::EndsEarly(at) => at,
+        crate::ReadAnswer::TokenBehind(at) => at,
+        crate::ReadAnswer::TokenOverVars(at) => at,
+        crate::ReadAnswer::ManyTokens(at) => at,
+        crate::ReadAnswer::ShortText(at) => at,
     }
 }
 
@@ -59,10 +59,10 @@ pub fn run_number(answer: crate::RunAnswer) -> u32
 {
     match answer {
         crate::RunAnswer::Settled => 0,
-        crate::RunAnswer::BufferShort => 1,
-        crate::RunAnswer::OutOfLimits => 10,
+        crate::RunAnswer::ShortBuffer => 1,
+        crate::RunAnswer::BadLimits => 10,
         crate::RunAnswer::BadList(_) => 11,
-        crate::RunAnswer::VariableAbove(_) => 12,
+        crate::RunAnswer::EntryOverVars(_) => 12,
         crate::RunAnswer::NoModel => 20,
         crate::RunAnswer::Stopped => 21,
     }
@@ -75,10 +75,10 @@ pub fn run_place(answer: crate::RunAnswer) -> usize
 {
     match answer {
         crate::RunAnswer::Settled => 0,
-        crate::RunAnswer::BufferShort => 0,
-        crate::RunAnswer::OutOfLimits => 0,
+        crate::RunAnswer::ShortBuffer => 0,
+        crate::RunAnswer::BadLimits => 0,
         crate::RunAnswer::BadList(at) => at,
-        crate::RunAnswer::VariableAbove(at) => at,
+        crate::RunAnswer::EntryOverVars(at) => at,
         crate::RunAnswer::NoModel => 0,
         crate::RunAnswer::Stopped => 0,
     }

@@ -4,22 +4,22 @@ use mathlib.Core.Logic.{inl, inr}
 use native.Mathlib.Omega.{arith}
 use borrow.Author.Needs.{needs}
 use Rattle.rules.specs.Answer.{given}
-use Rattle.rules.specs.RunRefusals.{InLimits, Lent, out-of-limits, buffer-short}
+use Rattle.rules.specs.RunRefusals.{InLimits, Lent, bad-limits, short-buffer}
 use Rattle.refusals.proofs.FoundLaws.{refused-is}
 use Rattle.refusals.proofs.refuse.Statement.{statement}
 use Rattle.refusals.proofs.refuse.Tie as tie
 
 returns : tie.Need-returns
-returns c = λ b. refused-is _ (out-of-limits (inl (c .if1 .taken)))
+returns c = λ b. refused-is _ (bad-limits (inl (c .if1 .taken)))
 
 returns-2 : tie.Need-returns-2
-returns-2 c = λ b. refused-is _ (out-of-limits (inr (inl (c .if2 .taken))))
+returns-2 c = λ b. refused-is _ (bad-limits (inr (inl (c .if2 .taken))))
 
 returns-3 : tie.Need-returns-3
-returns-3 c = λ b. refused-is _ (out-of-limits (inr (inr (c .if3 .taken))))
+returns-3 c = λ b. refused-is _ (bad-limits (inr (inr (c .if3 .taken))))
 
 returns-4 : tie.Need-returns-4
-returns-4 c = λ b. refused-is _ (buffer-short (omega arith) (inl (c .if4 .taken)))
+returns-4 c = λ b. refused-is _ (short-buffer (omega arith) (inl (c .if4 .taken)))
 
 add-if5 : tie.Need-add-if5
 add-if5 c = search needs
@@ -28,7 +28,7 @@ mul-if5 : tie.Need-mul-if5
 mul-if5 c = search needs
 
 returns-5 : tie.Need-returns-5
-returns-5 c = λ b. refused-is _ (buffer-short (omega arith) (inr (c .if5 .taken)))
+returns-5 c = λ b. refused-is _ (short-buffer (omega arith) (inr (c .if5 .taken)))
 
 refuse-list-requires : tie.Need-refuse-list-requires
 refuse-list-requires c κs = search needs
