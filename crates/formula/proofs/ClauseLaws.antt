@@ -6,10 +6,12 @@
 --   length-callClauses            a call has as many clauses as it says
 --   getD-callClauses              and clause n is the one at index n - 1
 --   callClauses-formula, callClauses-constraint     a call on the formula alone, and one with the constraint
---   clauseAt-up-to                a clause's literals are of the variables 1 to n
+--   clauses-up-to, nil-up-to, clauseAt-up-to     a clause's literals are of the variables 1 to n
+--   length-starts                 one start more than clauses
+--   clauses-le                    no more clauses than entries
 --
 -- Assumes nothing.
-use mathlib.Core.Path.{_≡_, refl, sym}
+use mathlib.Core.Path.{_≡_, refl, sym, _∙_, ap}
 use mathlib.Core.Logic.{_⊎_, inl, inr}
 use mathlib.Core.List.{List, [], _∷_, _++_, List·Memᴰ·head, List·Memᴰ·tail, List·Memᴰ·not-nil, List·Memᴰ·append-cases, List·Memᴰ·eq-of-singleton}
 use Prim.Native.Nat.{ℕ, zero, suc, pred, _+_, _-_, _<_, _≤_}
@@ -21,8 +23,9 @@ use Rattle.rules.specs.Lists.{In}
 use Rattle.rules.specs.Meaning.{Clause, varOf, leading, clauses}
 use Rattle.rules.proofs.ListLaws.{in-getD}
 use Rattle.formula.specs.Clauses.{ClauseUpTo}
-use Rattle.formula.specs.Starts.{startsOf, clausesWith, clauseAt, callClauses, Over}
-use Rattle.formula.proofs.StartsLaws.{Part, part}
+use Rattle.formula.specs.Starts.{startsOf, clausesWith, clauseAt, callClauses}
+use Rattle.formula.specs.Formula.{Formula}
+use Rattle.formula.proofs.StartsLaws.{length-leading, length-startsOf, Part, part}
 
 -- ---- the clause between two starts
 
@@ -98,13 +101,33 @@ clauses-entries (pos zero ∷ es) cl (List·Memᴰ·tail i) = entries-behind (po
 clauses-entries (pos (suc n) ∷ es) cl i = entries-leading (pos (suc n)) (omega arith) es (clauses es) (clauses-entries es) cl i
 clauses-entries (negsuc n ∷ es) cl i = entries-leading (negsuc n) (omega arith) es (clauses es) (clauses-entries es) cl i
 
-pub clauseAt-up-to : (n : ℕ) (es : List ℤ) (con : Clause) (k : ℕ) → Over n es con → k ≤ length (clauses es)
-    → ClauseUpTo n (clauseAt es con (suc k))
+-- of the formula's, if its entries are so
+pub clauses-up-to : (n : ℕ) (es : List ℤ) → ((l : ℤ) → In l es → varOf l ≤ n) → (cl : Clause) → In cl (clauses es) → ClauseUpTo n cl
+clauses-up-to n es o cl i =
+    record { each = λ l j. let (m, s) = clauses-entries es cl i .each l j in record { some = s; most = o l m } }
+
+-- the empty clause has none
+pub nil-up-to : (n : ℕ) → ClauseUpTo n []
+nil-up-to n = record { each = λ l i. absurd (List·Memᴰ·not-nil i) }
+
+-- and of the constraint
+pub clauseAt-up-to : (n : ℕ) (es : List ℤ) (con : Clause) (k : ℕ) → ((l : ℤ) → In l es → varOf l ≤ n) → ClauseUpTo n con
+    → k ≤ length (clauses es) → ClauseUpTo n (clauseAt es con (suc k))
 unfolding clauseAt clausesWith
-clauseAt-up-to n es con k o h =
+clauseAt-up-to n es con k o u h =
     go _ (List·Memᴰ·append-cases (clauses es) (in-getD (clauses es ++ (con ∷ [])) k [] (omega (arith, length-append (clauses es) (con ∷ [])))))
   where
     go : (cl : Clause) → In cl (clauses es) ⊎ In cl (con ∷ []) → ClauseUpTo n cl
-    go cl (inl i) =
-        record { each = λ l j. let (m, s) = clauses-entries es cl i .each l j in record { some = s; most = o .entries-up-to l m } }
-    go cl (inr i) = rw (List·Memᴰ·eq-of-singleton i) (o .constraint-up-to)
+    go cl (inl i) = clauses-up-to n es o cl i
+    go cl (inr i) = rw (List·Memᴰ·eq-of-singleton i) u
+
+-- ---- the formula as code has it
+
+pub length-starts : {vars : ℕ} {es : List ℤ} {starts : List ℕ} → Formula vars es starts → length starts ≡ suc (length (clauses es))
+length-starts {es = es} f = ap length (f .starts-are) ∙ length-startsOf es
+
+pub clauses-le : (es : List ℤ) → length (clauses es) ≤ length es
+clauses-le [] = omega arith
+clauses-le (pos zero ∷ es) = omega (arith, clauses-le es)
+clauses-le (pos (suc n) ∷ es) = omega (arith, clauses-le es, length-leading (pos (suc n)) (clauses es))
+clauses-le (negsuc n ∷ es) = omega (arith, clauses-le es, length-leading (negsuc n) (clauses es))

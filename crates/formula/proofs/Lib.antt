@@ -4,3 +4,4 @@ pub mod LiteralLaws
 pub mod StateLaws
 pub mod StartsLaws
 pub mod ClauseLaws
+pub mod FalseLaws

@@ -5,7 +5,6 @@
 --   trueByte-sign                 the byte that makes a literal true is that of its sign
 --   assign-set                    to make a literal true is to store that byte
 --   isUnset-byte, isTrue-byte     whether it is unset or true, by the byte at its index
---   litValue-tests                its value by both
 --
 -- Assumes nothing.
 use mathlib.Core.Path.{_≡_, refl, _∙_, ap}
@@ -17,7 +16,7 @@ use lib.IntN.{ℤ, pos, negsuc}
 use lib.ListN.{getD, set, length}
 use Rattle.rules.specs.Meaning.{Values, varOf, indexOf, valueAt, trueByte, isTrue, isUnset, assign}
 use Rattle.rules.proofs.ListLaws.{getD-default}
-use Rattle.formula.specs.Literals.{isPositive, byteOf, litValueBy, litValue}
+use Rattle.formula.specs.Literals.{isPositive, byteOf}
 
 pub indexOf-var : (l : ℤ) → 1 ≤ varOf l → indexOf l + 1 ≡ varOf l
 indexOf-var (pos zero) h = absurd (omega arith)
@@ -45,7 +44,3 @@ module _ (vs : Values) (l : ℤ) (i : ℕ) (e : i + 1 ≡ varOf l) where
 
     pub isTrue-byte : eqb (getD vs i 0) (byteOf (isPositive l)) ≡ isTrue vs l
     isTrue-byte = rw (byte-is, trueByte-sign l)
-
-pub litValue-tests : (vs : Values) (l : ℤ) {u t : Bool} → isUnset vs l ≡ u → isTrue vs l ≡ t → litValueBy u t ≡ litValue vs l
-unfolding litValue
-litValue-tests vs l p q = rw (p, q)

@@ -6,8 +6,6 @@
 --   Scan                          what is written, and what is left to write, are the starts
 --   scan-start, scan-zero, scan-other, scan-done     the invariant begins, goes on, pays off
 --   scan-room                     a zero that is met has room for its start
---   Count                         what is counted, and what is left to count, are all clauses
---   count-start, count-zero, count-other, count-done     the invariant begins, goes on, pays off
 --   found-front                   the starts are the front of the buffer
 --   found-unique                  no second result meets the promise
 --
@@ -158,39 +156,6 @@ scan-done es before now n i h w =
   where
     both : {xs ys us vs : List ℕ} → xs ≡ us → ys ≡ vs → xs ++ ys ≡ us ++ vs
     both e f = cc
-
--- ---- the count
-
--- n clauses counted in the first i entries
-pub record Count (es : List ℤ) (n i : ℕ) : Type 0 where
-  pub passed : i ≤ length es
-  pub small : n ≤ i
-  pub counted : n + length (clauses (drop i es)) ≡ length (clauses es)
-
-pub count-start : (es : List ℤ) → Count es 0 0
-count-start es = record { passed = omega arith; small = omega arith; counted = omega arith }
-
-module _ (es : List ℤ) (n i : ℕ) (h : i < length es) (w : Count es n i) where
-  pub count-zero : getD es i (pos 0) ≡ pos 0 → Count es (n + 1) (i + 1)
-  count-zero e =
-      let zero-here : drop i es ≡ pos 0 ∷ drop (suc i) es = drop-cons es i (pos 0) h ∙ ap (λ (l : ℤ). l ∷ drop (suc i) es) e in
-      record { passed = omega arith; small = omega (arith, w .small); counted = rw (add-one i) (omega (arith, rw zero-here at (w .counted))) }
-
-  pub count-other : getD es i (pos 0) ≢ pos 0 → Count es n (i + 1)
-  count-other d = go (getD es i (pos 0)) (drop-cons es i (pos 0) h) d
-    where
-      further : n + length (clauses (drop (suc i) es)) ≡ length (clauses es) → Count es n (i + 1)
-      further p = record { passed = omega arith; small = omega (arith, w .small); counted = rw (add-one i) p }
-
-      go : (l : ℤ) → drop i es ≡ l ∷ drop (suc i) es → l ≢ pos 0 → Count es n (i + 1)
-      go (pos zero) e d = absurd (d refl)
-      go (pos (suc m)) e d = further (rw (e, length-leading) at (w .counted))
-      go (negsuc m) e d = further (rw (e, length-leading) at (w .counted))
-
-pub count-done : (es : List ℤ) (n i : ℕ) → length es ≤ i → Count es n i → n ≡ length (clauses es)
-count-done es n i h w =
-    let d : drop i es ≡ [] = drop-of-length-le es h in
-    omega (arith, rw d at (w .counted))
 
 -- ---- the starts in a longer buffer
 

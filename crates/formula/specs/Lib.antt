@@ -2,4 +2,4 @@
 pub mod Literals
 pub mod Clauses
 pub mod Starts
-pub mod Views
+pub mod Formula

@@ -1,10 +1,8 @@
--- Literals: their sign, which of them have a negation that an i32 holds, and what a literal is under values. Assumes nothing.
+-- Literals: their sign, which of them have a negation that an i32 holds, and the byte of a value. Assumes nothing.
 use mathlib.Core.Bool.{Bool, true, false}
 use Prim.Native.Nat.{ℕ, _<_, _^_}
 use lib.IntN.{ℤ, pos, negsuc}
-use Rattle.rules.specs.Meaning.{Values, varOf, isTrue, isUnset}
-use Rattle.formula.specs.declared.value.LitValue.{LitValue}
-use Rattle.formula.specs.declared.value.LitValue.the-variants.{Unset, False, True}
+use Rattle.rules.specs.Meaning.{varOf}
 
 abbrev pub isPositive : ℤ → Bool
 isPositive (pos n) = true
@@ -18,11 +16,3 @@ pub record HasNegation (l : ℤ) : Type 0 where
 abbrev pub byteOf : Bool → ℕ
 byteOf false = 1
 byteOf true = 2
-
-abbrev pub litValueBy : Bool → Bool → LitValue
-litValueBy true t = Unset
-litValueBy false true = True
-litValueBy false false = False
-
-unfoldable pub litValue : Values → ℤ → LitValue
-litValue vs l = litValueBy (isUnset vs l) (isTrue vs l)

@@ -2,13 +2,10 @@
 -- on of the entry list, and during a call the chunk constraint counts as the clause after the last one". Assumes nothing.
 use mathlib.Core.Path.{_≡_}
 use mathlib.Core.List.{List, [], _∷_, _++_}
-use Prim.Native.Nat.{ℕ, zero, suc, pred, _≤_, _<_}
+use Prim.Native.Nat.{ℕ, zero, suc, pred, _≤_, _<_, _^_}
 use lib.IntN.{ℤ, pos, negsuc}
 use lib.ListN.{getD, length, take, drop}
-use Rattle.rules.specs.Lists.{In}
-use Rattle.rules.specs.Numbers.{maxEntries}
-use Rattle.rules.specs.Meaning.{Clause, varOf, clauses}
-use Rattle.formula.specs.Clauses.{ClauseUpTo}
+use Rattle.rules.specs.Meaning.{Clause, clauses}
 
 -- ---- starts
 
@@ -41,7 +38,7 @@ callClauses es con total = take total (clausesWith es con)
 
 -- room for the starts, each of which a u16 holds
 pub record RoomFor (es : List ℤ) (starts : List ℕ) : Type 0 where
-  pub entries-fit : length es ≤ maxEntries
+  pub entries-fit : length es < 2 ^ 16
   pub room : length (clauses es) < length starts
 
 -- what is looked up in, and the number: the starts are the entry list's, and the number is from 1 to that of the constraint
@@ -49,11 +46,6 @@ pub record Lookup (es : List ℤ) (starts : List ℕ) (n : ℕ) : Type 0 where
   pub starts-are : starts ≡ startsOf es
   pub some : 1 ≤ n
   pub most : n ≤ suc (length (clauses es))
-
--- the clauses of the formula and the constraint have literals of the variables 1 to n
-pub record Over (n : ℕ) (es : List ℤ) (con : Clause) : Type 0 where
-  pub entries-up-to : (l : ℤ) → In l es → varOf l ≤ n
-  pub constraint-up-to : ClauseUpTo n con
 
 -- ---- what `find_starts` promises
 

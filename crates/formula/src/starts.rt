@@ -1,7 +1,4 @@
 // Where the clauses start in the entry list, computed once a run.
-ghost use mathlib.Core.Path.{_≡_};
-ghost use lib.ListN.{length};
-ghost use Rattle.rules.specs.Meaning.{clauses};
 ghost use Rattle.formula.specs.Starts.{RoomFor, StartsFound};
 
 // Writes where each clause starts, with one more for the end, and returns how many clauses there are. The rest of the buffer
@@ -24,21 +21,4 @@ pub fn find_starts(entries: &[i32], starts: &mut [u16]) -> usize
         }
     }
     clauses
-}
-
-// How many clauses there are: one for each zero.
-// Rules out: literals counted; one clause more for what stands behind the last zero.
-pub fn count_clauses(entries: &[i32]) -> usize
-    ensures { λ r. ⌜ r ≡ length (clauses (now (entries .entry))) ⌝ }
-{
-    let mut count = 0;
-    let mut i = 0;
-    while i < entries.len() {
-        let entry = entries[i];
-        i += 1;
-        if entry == 0 {
-            count += 1;
-        }
-    }
-    count
 }

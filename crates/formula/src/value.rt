@@ -7,14 +7,7 @@ ghost use mathlib.Core.Path.{_≡_};
 ghost use Prim.Native.Nat.{_+_, _≤_};
 ghost use lib.ListN.{length};
 ghost use Rattle.rules.specs.Meaning.{LitUpTo, isTrue, isUnset};
-ghost use Rattle.formula.specs.Literals.{byteOf, litValue};
-
-// What a literal is under values.
-pub enum LitValue {
-    Unset,
-    False,
-    True,
-}
+ghost use Rattle.formula.specs.Literals.{byteOf};
 
 // The index of a variable's byte: its number less one.
 // Rules out: 3 for variable 3; 0 for every variable.
@@ -36,7 +29,7 @@ pub fn byte_of(value: bool) -> u8
 
 // Whether a literal of one of the variables is unset.
 // Rules out: true for a false literal; false for -1 where variable 1 has no value.
-// Required of: state_of, by the literals of its clause; value_of, which requires it too.
+// Required of: state_of, by the literals of its clause.
 pub fn is_unset(l: Lit, values: &[u8]) -> bool
     requires { ⌜ LitUpTo (length (now values)) (l .0) ⌝ }
     ensures { λ r. ⌜ r ≡ isUnset (now (values .entry)) (l .0) ⌝ }
@@ -47,27 +40,11 @@ pub fn is_unset(l: Lit, values: &[u8]) -> bool
 
 // Whether it is true.
 // Rules out: true for -1 where variable 1 is true; true for an unset literal.
-// Required of: has_true and state_of, by the literals of their clause; value_of, which requires it too.
+// Required of: has_true and state_of, by the literals of their clause.
 pub fn is_true(l: Lit, values: &[u8]) -> bool
     requires { ⌜ LitUpTo (length (now values)) (l .0) ⌝ }
     ensures { λ r. ⌜ r ≡ isTrue (now (values .entry)) (l .0) ⌝ }
 {
     let at = index_of(var_of(l));
     values[at] == byte_of(sign(l))
-}
-
-// Its value.
-// Rules out: False for an unset literal; True for -1 where variable 1 is true.
-// Required of: value_in, which requires it too.
-pub fn value_of(l: Lit, values: &[u8]) -> LitValue
-    requires { ⌜ LitUpTo (length (now values)) (l .0) ⌝ }
-    ensures { λ r. ⌜ r ≡ litValue (now (values .entry)) (l .0) ⌝ }
-{
-    if is_unset(l, values) {
-        LitValue::Unset
-    } else if is_true(l, values) {
-        LitValue::True
-    } else {
-        LitValue::False
-    }
 }

@@ -1,13 +1,14 @@
 -- docs/RULES.md, "Meaning": literals, clauses, the entry list cut at its zeros, values, models. Assumes nothing.
 use mathlib.Core.Path.{_≡_}
 use mathlib.Core.Logic.{_≢_, _⊎_}
-use mathlib.Core.Bool.{Bool, true}
+use mathlib.Core.Bool.{Bool, true, not}
 use mathlib.Core.List.{List, [], _∷_}
+use mathlib.Core.Option.{Option, none, some}
 use Prim.Native.Nat.{ℕ, zero, suc, pred, _≤_}
 use lib.Dec.{eqb}
 use lib.IntN.{ℤ, pos, negsuc, natAbs}
 use lib.ListN.{getD, set, length}
-use Rattle.rules.specs.Lists.{any, all}
+use Rattle.rules.specs.Lists.{any, all, orNext}
 
 -- ---- literals: variable 3 is 1 to V, literal -3 has a sign
 
@@ -81,6 +82,14 @@ hasTrue vs cl = any (isTrue vs) cl
 
 abbrev pub satisfies : Values → List Clause → Bool
 satisfies vs F = all (hasTrue vs) F
+
+-- the number of the first clause that has no true literal, where the first of F is clause n; none if each has one
+abbrev pub firstFalseFrom : ℕ → Values → List Clause → Option ℕ
+firstFalseFrom n vs [] = none
+firstFalseFrom n vs (cl ∷ cls) = orNext (not (hasTrue vs cl)) n (firstFalseFrom (suc n) vs cls)
+
+abbrev pub firstFalse : Values → List Clause → Option ℕ
+firstFalse vs F = firstFalseFrom 1 vs F
 
 -- every byte is 0, 1 or 2
 pub record Proper (vs : Values) : Type 0 where
