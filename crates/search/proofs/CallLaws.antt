@@ -1,7 +1,6 @@
 -- A call as `go_on` and `try_value` make it: which of its ways is taken, what it then ends with, and the values that are taken back.
 --
 --   saved-back                    of a saved copy, as many bytes as there are values are the values
---   ready-frame                   what a call requires speaks of the values by their number only
 --   Chosen, chosen, choice-none   the variable that was chosen is the lowest unset one; or there is none
 --   not-no-model, not-model       an outcome by the tag of the arm that is left
 --   ends-unique                   no second result meets the promise
@@ -43,17 +42,12 @@ use Rattle.search.specs.declared.meter.Taken.the-variants.{Try, Spent}
 use Rattle.search.specs.declared.call.CallEnd.{CallEnd}
 use Rattle.search.specs.Choices.{VarUpTo, choiceOf}
 use Rattle.search.specs.Meters.{takenIf, takenOf}
-use Rattle.search.specs.Calls.{CallReady, valuesAfter, CallEnds, unlessModel}
+use Rattle.search.specs.Calls.{valuesAfter, CallEnds, unlessModel}
 
 -- ---- a saved copy
 
 pub saved-back : (vs us rest saved : List ℕ) → saved ≡ take (length vs) vs ++ rest → length us ≡ length vs → take (length us) saved ≡ vs
 saved-back vs us rest saved e h = rw (h, e, take-length vs) (take-append-seam vs rest)
-
--- what a call requires speaks of the values by their number only
-pub ready-frame : {vs us : Values} {es : List ℤ} {starts : List ℕ} {con : Clause} {total : ℕ} → length us ≡ length vs
-    → CallReady vs es starts con total → CallReady us es starts con total
-ready-frame e r = record { vars-fit = rw e (r .vars-fit); well-formed = rw e (r .well-formed) }
 
 -- ---- the choice
 

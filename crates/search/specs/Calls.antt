@@ -2,29 +2,23 @@
 use mathlib.Core.Path.{_≡_}
 use mathlib.Core.Bool.{Bool}
 use mathlib.Core.List.{List}
-use Prim.Native.Nat.{ℕ, pred, _≤_}
+use Prim.Native.Nat.{ℕ, pred}
 use lib.IntN.{ℤ}
 use lib.ListN.{length}
 use Rattle.rules.specs.declared.Outcome.{Outcome}
-use Rattle.rules.specs.Numbers.{maxVars}
 use Rattle.rules.specs.Meaning.{Clause, Values, valueAt}
 use Rattle.rules.specs.Search.{Call, model, no-model, stopped, outcomeOf, triesOf, try, callOn}
 use Rattle.formula.specs.Literals.{byteOf}
 use Rattle.search.specs.declared.meter.Meter.{Meter}
 use Rattle.search.specs.declared.call.CallEnd.{CallEnd}
 use Rattle.search.specs.Choices.{VarUpTo}
-use Rattle.search.specs.Closings.{WellFormed}
+use Rattle.search.specs.Closings.{CallOver}
 
 -- ---- what is required
 
--- a byte for each variable, of which there are no more than 256, and a formula over them
-pub record CallReady (vs : Values) (es : List ℤ) (starts : List ℕ) (con : Clause) (total : ℕ) : Type 0 where
-  pub vars-fit : length vs ≤ maxVars
-  pub well-formed : WellFormed (length vs) es starts con total
-
--- and for a try a variable that is unset
-pub record TryReady (vs : Values) (es : List ℤ) (starts : List ℕ) (con : Clause) (total v : ℕ) : Type 0 where
-  pub ready : CallReady vs es starts con total
+-- for a try, beside what a call requires, a variable that is unset
+pub record TryOver (vs : Values) (es : List ℤ) (starts : List ℕ) (con : Clause) (total v : ℕ) : Type 0 where
+  pub call : CallOver (length vs) es starts con total
   pub variable : VarUpTo (length vs) v
   pub unset : valueAt vs (pred v) ≡ 0
 

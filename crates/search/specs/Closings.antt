@@ -1,22 +1,21 @@
 -- What closing requires, and its results read as those of the definition. Assumes nothing.
-use mathlib.Core.Path.{_≡_}
 use mathlib.Core.List.{List}
 use Prim.Native.Nat.{ℕ, suc, _≤_}
 use lib.IntN.{ℤ}
 use lib.ListN.{length}
 use Rattle.rules.specs.Meaning.{Clause, Values, clauses}
 use Rattle.rules.specs.Closing.{Round, under-way, at-false, Closed, clash, closed}
-use Rattle.formula.specs.Starts.{startsOf, Over}
+use Rattle.formula.specs.Clauses.{ClauseUpTo}
+use Rattle.formula.specs.Formula.{Formula}
 use Rattle.search.specs.declared.close.RoundEnd.{RoundEnd}
 use Rattle.search.specs.declared.close.RoundEnd.the-variants.{AtFalse, UnderWay}
 use Rattle.search.specs.declared.close.Closing.{Closing}
 use Rattle.search.specs.declared.close.Closing.the-variants.{Clash, Closed as AllClosed}
 
--- the starts are the entry list's, all literals are of the variables 1 to n, and a call has no more clauses than there are with
--- the constraint
-pub record WellFormed (n : ℕ) (es : List ℤ) (starts : List ℕ) (con : Clause) (total : ℕ) : Type 0 where
-  pub starts-are : starts ≡ startsOf es
-  pub over : Over n es con
+-- a formula, and a constraint over its variables; a call has no more clauses than there are with the constraint
+pub record CallOver (vars : ℕ) (es : List ℤ) (starts : List ℕ) (con : Clause) (total : ℕ) : Type 0 where
+  pub formula : Formula vars es starts
+  pub constraint-up-to : ClauseUpTo vars con
   pub total-most : total ≤ suc (length (clauses es))
 
 -- a round's end with the values that it leaves

@@ -16,7 +16,8 @@ ghost use mathlib.Core.Path.{_≡_};
 ghost use Prim.Native.Nat.{_≤_};
 ghost use lib.ListN.{length, take};
 ghost use Rattle.formula.specs.Starts.{callClauses};
-ghost use Rattle.search.specs.Calls.{CallReady, TryReady, Calls, Tries, unlessModel};
+ghost use Rattle.search.specs.Closings.{CallOver};
+ghost use Rattle.search.specs.Calls.{TryOver, Calls, Tries, unlessModel};
 
 // What a call ends with, and the meter as it then is. The model's values are in the lent buffer.
 pub struct CallEnd {
@@ -48,7 +49,7 @@ pub fn go_on<'a>(
     values: &mut [u8],
     meter: Meter,
 ) -> CallEnd
-    requires { ⌜ CallReady (now values) (now entries) (now starts) (now constraint) total ⌝ }
+    requires { ⌜ CallOver (length (now values)) (now entries) (now starts) (now constraint) total ⌝ }
     ensures { λ r. ⌜ Calls (callClauses (now (entries .entry)) (now (constraint .entry)) total) (now (values .entry)) meter r (now (values .exit)) ⌝ }
 {
     // The one copy of a level, for taking back: 256 bytes for up to 256 variables.
@@ -94,7 +95,7 @@ pub fn try_value<'a>(
     v: Var,
     value: bool,
 ) -> CallEnd
-    requires { ⌜ TryReady (now values) (now entries) (now starts) (now constraint) total (v .0) ⌝ }
+    requires { ⌜ TryOver (now values) (now entries) (now starts) (now constraint) total (v .0) ⌝ }
     ensures { λ r. ⌜ Tries (callClauses (now (entries .entry)) (now (constraint .entry)) total) (now (values .entry)) meter (v .0) value r (now (values .exit)) ⌝ }
 {
     let Taken::Try(left) = take_try(meter) else {

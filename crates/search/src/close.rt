@@ -9,7 +9,7 @@ ghost use mathlib.Core.Path.{_≡_};
 ghost use lib.ListN.{length};
 ghost use Rattle.rules.specs.Closing.{under-way, round, closing};
 ghost use Rattle.formula.specs.Starts.{callClauses};
-ghost use Rattle.search.specs.Closings.{WellFormed, roundOf, closedOf};
+ghost use Rattle.search.specs.Closings.{CallOver, roundOf, closedOf};
 
 // What a round ends with: a false clause, or the number of literals that it set.
 pub enum RoundEnd {
@@ -33,7 +33,7 @@ pub fn round<'a>(
     total: u32,
     values: &mut [u8],
 ) -> RoundEnd
-    requires { ⌜ WellFormed (length (now values)) (now entries) (now starts) (now constraint) total ⌝ }
+    requires { ⌜ CallOver (length (now values)) (now entries) (now starts) (now constraint) total ⌝ }
     ensures { λ r. ⌜ round (callClauses (now (entries .entry)) (now (constraint .entry)) total) (under-way (now (values .entry)) 0) ≡ roundOf r (now (values .exit)) ⌝ }
 {
     let mut set = 0;
@@ -66,7 +66,7 @@ pub fn close<'a>(
     total: u32,
     values: &mut [u8],
 ) -> Closing
-    requires { ⌜ WellFormed (length (now values)) (now entries) (now starts) (now constraint) total ⌝ }
+    requires { ⌜ CallOver (length (now values)) (now entries) (now starts) (now constraint) total ⌝ }
     ensures { λ r. ⌜ closing (callClauses (now (entries .entry)) (now (constraint .entry)) total) (now (values .entry)) ≡ closedOf r (now (values .exit)) ⌝ }
 {
     loop {

@@ -20,8 +20,8 @@ use Rattle.search.specs.declared.meter.Meter.{Meter}
 use Rattle.search.specs.declared.meter.Taken.the-variants.{Try}
 use Rattle.search.specs.Meters.{takenOf}
 use Rattle.search.specs.Closings.{closedOf}
-use Rattle.search.specs.Calls.{TryReady, Calls, unlessModel}
-use Rattle.search.proofs.CallLaws.{saved-back, ready-frame, Chosen, chosen, choice-none, not-no-model, not-model, ends-clash, ends-model, ends-first, ends-second, falls-closing, undone, none-not-model, ends-stopped, ends-set, ends-unset, falls-set}
+use Rattle.search.specs.Calls.{TryOver, Calls, unlessModel}
+use Rattle.search.proofs.CallLaws.{saved-back, Chosen, chosen, choice-none, not-no-model, not-model, ends-clash, ends-model, ends-first, ends-second, falls-closing, undone, none-not-model, ends-stopped, ends-set, ends-unset, falls-set}
 use Rattle.search.proofs.call.go_on.Reads as go-on
 use Rattle.search.proofs.call.go_on.Kinds as go-on-kinds
 use Rattle.search.proofs.call.+go_on+try_value.Lts-go_on as go-on-lts
@@ -140,7 +140,7 @@ module _ (t : ℕ) where
 
   -- taking back has as many bytes as it asks for
   saved-enough : (c : Closes) (us : Values) → length us ≡ length (values c) → length us ≤ length (saved-at c .copy-first .last .1 .0)
-  saved-enough c us h = omega (arith, saved-long (saved-at c), start-at c .pre .1 .vars-fit)
+  saved-enough c us h = omega (arith, saved-long (saved-at c), start-at c .pre .1 .formula .vars-fit)
 
   closed-len : (c : Closes) → length (closed-values c) ≡ length (values c)
   closed-len c = c .close .kept .1 .1 .1 .1 .0
@@ -163,13 +163,13 @@ module _ (t : ℕ) where
 
   -- a try of it, from the values that closing left
   ready : (c : Chooses) (us : Values) → us ≡ closed-values (closed-at c)
-      → (2 * unsets us < t) × TryReady us (start-at (closed-at c) .args .entries .now) (start-at (closed-at c) .args .starts .now) (start-at (closed-at c) .args .constraint .now) (start-at (closed-at c) .args .total) (variable c)
+      → (2 * unsets us < t) × TryOver us (start-at (closed-at c) .args .entries .now) (start-at (closed-at c) .args .starts .now) (start-at (closed-at c) .args .constraint .now) (start-at (closed-at c) .args .total) (variable c)
   ready c us e =
       let close = closed-at c in
       let start = start-at close in
       rw e (
         omega (arith, start .pre .0, falls-closing (start .args .meter) (clauses close) (values close) (closed-values close) (closed-is c)),
-        record { ready = ready-frame (closed-len close) (start .pre .1); variable = chosen-is c .variable; unset = chosen-is c .unset },
+        record { call = rw (closed-len close) (start .pre .1); variable = chosen-is c .variable; unset = chosen-is c .unset },
       )
 
   -- ---- go_on: the answers
@@ -178,10 +178,10 @@ module _ (t : ℕ) where
   go-on-slice-aggregate-copy-first c = refl
 
   go-on-copy-first-requires : go-on-lts.Need-copy-first-requires go-on-claims (go-on-at t) go-on.Post
-  go-on-copy-first-requires c κs = (omega arith, c .before .before .before .before .pre .1 .vars-fit)
+  go-on-copy-first-requires c κs = (omega arith, c .before .before .before .before .pre .1 .formula .vars-fit)
 
   go-on-close-requires : go-on-lts.Need-close-requires go-on-claims (go-on-at t) go-on.Post
-  go-on-close-requires c κs = c .before .before .before .before .before .before .before .pre .1 .well-formed
+  go-on-close-requires c κs = c .before .before .before .before .before .before .before .pre .1
 
   go-on-enum-told : go-on-lts.Need-enum-told go-on-claims (go-on-at t) go-on.Post
   go-on-enum-told c = search needs
@@ -211,7 +211,7 @@ module _ (t : ℕ) where
 
   go-on-lowest-unset-requires : go-on-lts.Need-lowest-unset-requires go-on-claims (go-on-at t) go-on.Post
   go-on-lowest-unset-requires c κs =
-      let close = c .before .before .before .before .before in omega (arith, closed-len close, start-at close .pre .1 .vars-fit)
+      let close = c .before .before .before .before .before in omega (arith, closed-len close, start-at close .pre .1 .formula .vars-fit)
 
   go-on-enum-known-v : go-on-lts.Need-enum-known-v go-on-claims (go-on-at t) go-on.Post
   go-on-enum-known-v c = search needs
@@ -367,7 +367,7 @@ module _ (t : ℕ) where
       let set = c .before .before .before in
       let asked = asked-at (paid-at set) in (
         rw (set .set-value .ensures) (omega (arith, asked .pre .0, falls-set (asked .args .values .now) (index asked) (asked .args .value) (asked .pre .1 .unset))),
-        ready-frame (set-len set) (asked .pre .1 .ready),
+        rw (set-len set) (asked .pre .1 .call),
       )
 
   try-value-enum-told-2 : try-value-lts.Need-enum-told-2 try-value-claims (try-value-at t) try-value.Post

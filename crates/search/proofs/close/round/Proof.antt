@@ -29,7 +29,7 @@ add-n c = search needs
 clause-in-requires : tie.Need-clause-in-requires Inv-loop μ-loop
 clause-in-requires c κs =
     let start = c .before .before .before .before in
-    record { starts-are = start .pre .starts-are; some = omega arith; most = omega (arith, c .loop-test .taken, start .pre .total-most) }
+    record { starts-are = start .pre .formula .starts-are; some = omega arith; most = omega (arith, c .loop-test .taken, start .pre .total-most) }
 
 -- the clause that was looked up is the next one of the call
 clause-is : (c : tie.After-clause-in Inv-loop μ-loop) → getD (callClauses (c .before .before .before .before .before .args .entries .now) (c .before .before .before .before .before .args .constraint .now) (c .before .before .before .before .before .args .total)) (c .before .before .loop .n) [] ≡ c .clause-in .result .now
@@ -52,7 +52,7 @@ up-to c =
     let start = c .before .before .before .before .before in
     let n = c .before .before .loop .n in
     rw (c .before .before .loop .inv .len, c .clause-in .ensures, add-one n)
-    (clauseAt-up-to (length (start .args .values .now)) (start .args .entries .now) (start .args .constraint .now) n (start .pre .over)
+    (clauseAt-up-to (length (start .args .values .now)) (start .args .entries .now) (start .args .constraint .now) n (start .pre .formula .up-to) (start .pre .constraint-up-to)
     (omega (arith, c .before .loop-test .taken, start .pre .total-most)))
 
 state-of-requires : tie.Need-state-of-requires Inv-loop μ-loop
