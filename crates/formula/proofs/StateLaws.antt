@@ -1,148 +1,97 @@
--- The state of a clause, literal by literal, and the running flags of `state_of` as an invariant: what the flags say is the state of
--- the literals passed.
+-- The clause test by its parts: what a search through a clause knows of the literals that it passed, and the state of a clause by its
+-- true literals first and then by its distinct unset ones.
 --
---   withUnset                     a state and one more unset literal
---   stateOf-true                  a clause with a true literal is true
---   stateOf-snoc-set, stateOf-snoc-unset     one more literal that is not true, or unset
---   NoneTrue, none-true-start, none-true-step, none-true-done     no literal passed is true: it begins, goes on, pays off
---   flagState, Flags              the state that the flags say, and that it is the state of the first i literals
---   flags-start, flags-set, flags-first, flags-same, flags-other, flags-done     the invariant begins, goes on, pays off
+--   none-step, none-done          no literal passed passes a test: it goes on, pays off
+--   first-here, first-none        the first literal that passes, where none before it does
+--   other-differs, other-equals   the test for an unset literal other than l, where k is not l, or is
+--   other-same                    no unset literal is another than l exactly if all of them are l
+--   stateOf-true, stateOf-none, stateOf-first     the state of a clause that has a true literal, no unset one, a first unset one
 --
 -- Assumes nothing.
 use mathlib.Core.Path.{_≡_, refl, sym, _∙_, ap}
 use mathlib.Core.Logic.{_≢_}
-use mathlib.Core.Bool.{Bool, true, false, _&&_, _||_}
-use mathlib.Core.List.{List, [], _∷_, _++_, append-nil}
+use mathlib.Core.Bool.{Bool, true, false, not, _&&_, _||_}
+use mathlib.Core.List.{List, [], _∷_}
 use Prim.Native.Nat.{ℕ, _+_, _<_, _≤_}
 use native.Mathlib.Omega.{arith}
 use native.Mathlib.Numerals.{add-one}
-use lib.Dec.{ltb}
 use lib.IntN.{ℤ, pos}
-use lib.ListN.{getD, length, take}
-use lib.Seq.{take-suc, take-all}
-use borrow.Author.Tests.{lt-ltb, le-ltb}
-use Rattle.rules.specs.declared.ClauseState.{ClauseState}
-use Rattle.rules.specs.declared.ClauseState.the-variants.{False, Unit, True, Undecided}
-use Rattle.rules.specs.Lists.{In, all, keep, eqz}
-use Rattle.rules.specs.Meaning.{Clause, Values, isTrue, isUnset, hasTrue}
+use lib.ListN.{getD, length, take, take-append-drop}
+use lib.Seq.{take-suc, take-all, drop-cons}
+use Rattle.rules.specs.declared.Lit.{Lit}
+use Rattle.rules.specs.declared.ClauseState.the-variants.{False, True}
+use Rattle.rules.specs.Lists.{any, all, keep, keepIf, eqz}
+use Rattle.rules.specs.Meaning.{Clause, Values, isUnset, hasTrue}
 use Rattle.rules.specs.Closing.{literal, unitIf, stateBy, stateOf}
-use Rattle.rules.proofs.ListLaws.{never, not-true, any-append, all-append, keep-append, any-complete, eqz-complete, eqz-other}
-use Rattle.rules.proofs.MeaningLaws.{isUnset-of-isTrue}
+use Rattle.rules.proofs.ListLaws.{never, any-append, keep-append, eqz-refl, eqz-complete, eqz-other}
+use Rattle.formula.specs.declared.unset.Found.the-variants.{Nothing, Literal}
+use Rattle.formula.specs.Clauses.{firstIn, firstUnset, isOtherUnset, hasOtherUnset}
 
--- ---- one more literal
+-- ---- a search: no literal passed passes the test
 
-abbrev pub withUnset : ClauseState → ℤ → ClauseState
-withUnset False l = Unit (literal l)
-withUnset (Unit k) l = unitIf (eqz (k .0) l) (k .0)
-withUnset True l = True
-withUnset Undecided l = Undecided
-
-pub stateOf-true : (vs : Values) (cl : Clause) {l : ℤ} → In l cl → isTrue vs l ≡ true → stateOf vs cl ≡ True
-unfolding stateOf
-stateOf-true vs cl i h = rw (any-complete (isTrue vs) i h)
-
-or-false : (b : Bool) → (b || false) ≡ b
-or-false true = refl
-or-false false = refl
-
-hasTrue-snoc : (vs : Values) (cl : Clause) (l : ℤ) → isTrue vs l ≡ false → hasTrue vs (cl ++ l ∷ []) ≡ hasTrue vs cl
-hasTrue-snoc vs cl l f = any-append (isTrue vs) cl (l ∷ []) ∙ rw f (or-false (hasTrue vs cl))
-
-pub stateOf-snoc-set : (vs : Values) (cl : Clause) (l : ℤ) → isTrue vs l ≡ false → isUnset vs l ≡ false
-    → stateOf vs (cl ++ l ∷ []) ≡ stateOf vs cl
-unfolding stateOf
-stateOf-snoc-set vs cl l f u = rw (hasTrue-snoc vs cl l f, keep-append (isUnset vs) cl (l ∷ []), u, append-nil (keep (isUnset vs) cl))
-
-pub stateOf-snoc-unset : (vs : Values) (cl : Clause) (l : ℤ) → isUnset vs l ≡ true
-    → stateOf vs (cl ++ l ∷ []) ≡ withUnset (stateOf vs cl) l
-unfolding stateOf
-stateOf-snoc-unset vs cl l u =
-    rw (hasTrue-snoc vs cl l (not-true (isTrue vs l) (λ t. never u (isUnset-of-isTrue vs l t))), keep-append (isUnset vs) cl (l ∷ []), u) (go (hasTrue vs cl) (keep (isUnset vs) cl))
+keep-none : (p : ℤ → Bool) (cl : Clause) → any p cl ≡ false → keep p cl ≡ []
+keep-none p [] n = refl
+keep-none p (l ∷ cl) n = go (p l) n (keep-none p cl)
   where
-    both : (a b : Bool) (k : ℤ) → eqz k l ≡ b → unitIf (a && (b && true)) k ≡ withUnset (unitIf a k) l
-    both true true k e = rw e
-    both true false k e = rw e
-    both false b k e = refl
+    go : (b : Bool) → (b || any p cl) ≡ false → (any p cl ≡ false → keep p cl ≡ []) → keepIf b l (keep p cl) ≡ []
+    go true n ih = absurd (never refl n)
+    go false n ih = ih n
 
-    go : (t : Bool) (us : List ℤ) → stateBy t (us ++ l ∷ []) ≡ withUnset (stateBy t us) l
-    go true us = refl
-    go false [] = refl
-    go false (k ∷ us) = rw (all-append (eqz k) us (l ∷ [])) (both (all (eqz k) us) (eqz k l) k refl)
+module _ (p : ℤ → Bool) (cl : Clause) (i : ℕ) (n : any p (take i cl) ≡ false) where
+  pub none-step : i < length cl → p (getD cl i (pos 0)) ≡ false → any p (take (i + 1) cl) ≡ false
+  none-step h f = rw (add-one i, take-suc cl i (pos 0) h, any-append p (take i cl) (getD cl i (pos 0) ∷ []), n, f)
 
--- ---- no literal passed is true
+  pub none-done : length cl ≤ i → any p cl ≡ false
+  none-done h = ap (any p) (sym (take-all i cl h)) ∙ n
 
-pub record NoneTrue (vs : Values) (cl : Clause) (i : ℕ) : Type 0 where
-  pub passed : i ≤ length cl
-  pub none : hasTrue vs (take i cl) ≡ false
+  pub first-here : i < length cl → p (getD cl i (pos 0)) ≡ true → firstIn (keep p cl) ≡ Literal (literal (getD cl i (pos 0)))
+  first-here h t =
+      ap (λ (xs : List ℤ). firstIn (keep p xs)) (sym (take-append-drop i cl))
+      ∙ rw (drop-cons cl i (pos 0) h, keep-append p (take i cl), keep-none p (take i cl) n, t)
 
-pub none-true-start : (vs : Values) (cl : Clause) → NoneTrue vs cl 0
-none-true-start vs cl = record { passed = omega arith; none = refl }
+  pub first-none : length cl ≤ i → firstIn (keep p cl) ≡ Nothing
+  first-none h = ap firstIn (keep-none p cl (none-done h))
 
-one-more : (cl : Clause) (i : ℕ) → i < length cl → take (i + 1) cl ≡ take i cl ++ getD cl i (pos 0) ∷ []
-one-more cl i h = rw (add-one i) (take-suc cl i (pos 0) h)
+-- ---- an unset literal other than l
 
-pub none-true-step : (vs : Values) (cl : Clause) (i : ℕ) → i < length cl → NoneTrue vs cl i → isTrue vs (getD cl i (pos 0)) ≡ false → NoneTrue vs cl (i + 1)
-none-true-step vs cl i h w f =
-    record {
-      passed = omega arith;
-      none = ap (hasTrue vs) (one-more cl i h) ∙ hasTrue-snoc vs (take i cl) (getD cl i (pos 0)) f ∙ w .none;
-    }
+module _ (vs : Values) (l k : ℤ) where
+  pub other-differs : k ≢ l → isOtherUnset vs l k ≡ isUnset vs k
+  other-differs d = rw (eqz-other l k (λ e. d (sym e)))
 
-pub none-true-done : (vs : Values) (cl : Clause) (i : ℕ) → length cl ≤ i → NoneTrue vs cl i → hasTrue vs cl ≡ false
-none-true-done vs cl i h w = ap (hasTrue vs) (sym (take-all i cl h)) ∙ w .none
+  pub other-equals : k ≡ l → isOtherUnset vs l k ≡ false
+  other-equals e = rw (eqz-complete l k (sym e))
 
--- ---- the running flags
+pub other-same : (vs : Values) (l : ℤ) (cl : Clause) → not (hasOtherUnset vs l cl) ≡ all (eqz l) (keep (isUnset vs) cl)
+other-same vs l [] = refl
+other-same vs l (k ∷ cl) = go (eqz l k) (isUnset vs k) refl (other-same vs l cl)
+  where
+    go : (e u : Bool) → eqz l k ≡ e → not (hasOtherUnset vs l cl) ≡ all (eqz l) (keep (isUnset vs) cl)
+        → not ((not e && u) || hasOtherUnset vs l cl) ≡ all (eqz l) (keepIf u k (keep (isUnset vs) cl))
+    go true true q ih = rw q ih
+    go true false q ih = ih
+    go false true q ih = rw q
+    go false false q ih = ih
 
-abbrev pub unitOr : Bool → ℤ → ClauseState
-unitOr true l = Unit (literal l)
-unitOr false l = False
+-- ---- the state by its parts
 
--- the state that the flags say: whether two distinct unset literals were met, and the index of the first
-abbrev pub flagState : Clause → ℕ → Bool → ClauseState
-flagState cl first true = Undecided
-flagState cl first false = unitOr (ltb first (length cl)) (getD cl first (pos 0))
+module _ (vs : Values) (cl : Clause) where
+  pub stateOf-true : hasTrue vs cl ≡ true → stateOf vs cl ≡ True
+  unfolding stateOf
+  stateOf-true t = rw t
 
-pub record Flags (vs : Values) (cl : Clause) (i first : ℕ) (several : Bool) : Type 0 where
-  pub passed : i ≤ length cl
-  pub says : stateOf vs (take i cl) ≡ flagState cl first several
-
-pub flags-start : (vs : Values) (cl : Clause) → Flags vs cl 0 (length cl) false
-unfolding stateOf
-flags-start vs cl = record { passed = omega arith; says = rw (le-ltb (length cl) (length cl) (omega arith)) }
-
-module _ (vs : Values) (cl : Clause) (i first : ℕ) (several : Bool) (h : i < length cl) (w : Flags vs cl i first several) where
-  abbrev here : ℤ
-  here = getD cl i (pos 0)
-
-  unset-here : isUnset vs here ≡ true → stateOf vs (take (i + 1) cl) ≡ withUnset (flagState cl first several) here
-  unset-here u = ap (stateOf vs) (one-more cl i h) ∙ stateOf-snoc-unset vs (take i cl) here u ∙ ap (λ (s : ClauseState). withUnset s here) (w .says)
-
-  pub flags-set : isTrue vs here ≡ false → isUnset vs here ≡ false → Flags vs cl (i + 1) first several
-  flags-set f u =
-      record { passed = omega arith; says = ap (stateOf vs) (one-more cl i h) ∙ stateOf-snoc-set vs (take i cl) here f u ∙ w .says }
-
-  pub flags-first : isUnset vs here ≡ true → length cl ≤ first → Flags vs cl (i + 1) i several
-  flags-first u e = record { passed = omega arith; says = unset-here u ∙ go several }
+  pub stateOf-none : hasTrue vs cl ≡ false → firstUnset vs cl ≡ Nothing → stateOf vs cl ≡ False
+  unfolding stateOf
+  stateOf-none n e = rw n (go (keep (isUnset vs) cl) e)
     where
-      go : (b : Bool) → withUnset (flagState cl first b) here ≡ flagState cl i b
-      go true = refl
-      go false = rw (le-ltb first (length cl) e, lt-ltb i (length cl) h)
+      go : (us : List ℤ) → firstIn us ≡ Nothing → stateBy false us ≡ False
+      go [] e = refl
+      go (k ∷ us) e = absurd (let z : _≡_ {A = ℕ} 0 1 = cc in omega arith)
 
-  module _ (u : isUnset vs here ≡ true) (k : first < length cl) where
-    pub flags-same : getD cl first (pos 0) ≡ here → Flags vs cl (i + 1) first several
-    flags-same e = record { passed = omega arith; says = unset-here u ∙ go several }
-      where
-        go : (b : Bool) → withUnset (flagState cl first b) here ≡ flagState cl first b
-        go true = refl
-        go false = rw (lt-ltb first (length cl) k, eqz-complete (getD cl first (pos 0)) here e)
-
-    pub flags-other : getD cl first (pos 0) ≢ here → Flags vs cl (i + 1) first true
-    flags-other e = record { passed = omega arith; says = unset-here u ∙ go several }
-      where
-        go : (b : Bool) → withUnset (flagState cl first b) here ≡ Undecided
-        go true = refl
-        go false = rw (lt-ltb first (length cl) k, eqz-other (getD cl first (pos 0)) here e)
-
-pub flags-done : (vs : Values) (cl : Clause) (i first : ℕ) (several : Bool) → length cl ≤ i → Flags vs cl i first several
-    → flagState cl first several ≡ stateOf vs cl
-flags-done vs cl i first several h w = sym (w .says) ∙ ap (stateOf vs) (take-all i cl h)
+  pub stateOf-first : (l : Lit) → hasTrue vs cl ≡ false → firstUnset vs cl ≡ Literal l
+      → stateOf vs cl ≡ unitIf (not (hasOtherUnset vs (l .0) cl)) (l .0)
+  unfolding stateOf
+  stateOf-first l n e = rw (n, other-same vs (l .0) cl) (go (keep (isUnset vs) cl) e)
+    where
+      go : (us : List ℤ) → firstIn us ≡ Literal l → stateBy false us ≡ unitIf (all (eqz (l .0)) us) (l .0)
+      go [] e = absurd (let z : _≡_ {A = ℕ} 0 1 = cc in omega arith)
+      go (k ∷ us) e = let q : l ≡ literal k = cc in rw (q, eqz-refl k)

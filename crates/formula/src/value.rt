@@ -29,7 +29,7 @@ pub fn byte_of(value: bool) -> u8
 
 // Whether a literal of one of the variables is unset.
 // Rules out: true for a false literal; false for -1 where variable 1 has no value.
-// Required of: state_of, by the literals of its clause.
+// Required of: first_unset and has_other_unset, by the literals of their clause.
 pub fn is_unset(l: Lit, values: &[u8]) -> bool
     requires { ⌜ LitUpTo (length (now values)) (l .0) ⌝ }
     ensures { λ r. ⌜ r ≡ isUnset (now (values .entry)) (l .0) ⌝ }
@@ -40,7 +40,7 @@ pub fn is_unset(l: Lit, values: &[u8]) -> bool
 
 // Whether it is true.
 // Rules out: true for -1 where variable 1 is true; true for an unset literal.
-// Required of: has_true and state_of, by the literals of their clause.
+// Required of: has_true, by the literals of its clause.
 pub fn is_true(l: Lit, values: &[u8]) -> bool
     requires { ⌜ LitUpTo (length (now values)) (l .0) ⌝ }
     ensures { λ r. ⌜ r ≡ isTrue (now (values .entry)) (l .0) ⌝ }

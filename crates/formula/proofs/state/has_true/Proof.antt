@@ -1,43 +1,44 @@
 -- `formula::state::has_true` meets its contract. The invariant of its loop: no literal passed is true. The measure is what is left.
 -- Assumes nothing.
-use mathlib.Core.Path.{_≡_, sym, _∙_}
+use mathlib.Core.Path.{_≡_, refl, sym, _∙_}
+use mathlib.Core.Bool.{false}
 use Prim.Native.Nat.{_-_}
 use lib.IntN.{pos}
-use lib.ListN.{getD, length}
+use lib.ListN.{getD, length, take}
 use borrow.Author.Needs.{needs}
-use Rattle.rules.specs.Meaning.{isTrue}
+use Rattle.rules.specs.Meaning.{isTrue, hasTrue}
 use Rattle.rules.proofs.ListLaws.{in-getD, any-complete}
 use Rattle.formula.proofs.SignedLaws.{toZ-ofZ-at, of-literal}
-use Rattle.formula.proofs.StateLaws.{NoneTrue, none-true-start, none-true-step, none-true-done}
+use Rattle.formula.proofs.StateLaws.{none-step, none-done}
 use Rattle.formula.proofs.state.has_true.Statement.{statement}
 use Rattle.formula.proofs.state.has_true.Tie as tie
 
 abbrev Inv-loop : tie.InvT-loop
-Inv-loop clause values i₀ i = NoneTrue values clause i
+Inv-loop clause values i₀ i = hasTrue values (take i clause) ≡ false
 
 abbrev μ-loop : tie.MeasureT-loop
 μ-loop clause values i₀ i = length clause - i
 
 loop-holds : tie.Need-loop-holds Inv-loop μ-loop
-loop-holds c = none-true-start (c .before .args .values .now) (c .before .args .clause .now)
+loop-holds c = refl
 
-mul-l : tie.Need-mul-l Inv-loop μ-loop
-mul-l c = search needs
+mul-t5 : tie.Need-mul-t5 Inv-loop μ-loop
+mul-t5 c = search needs
 
-shared-slice-copy-out-l : tie.Need-shared-slice-copy-out-l Inv-loop μ-loop
-shared-slice-copy-out-l c = search needs
+shared-slice-copy-out-t8 : tie.Need-shared-slice-copy-out-t8 Inv-loop μ-loop
+shared-slice-copy-out-t8 c = search needs
 
 is-true-requires : tie.Need-is-true-requires Inv-loop μ-loop
 is-true-requires c κs =
     let start = c .before .before .before .before in
-    rw (toZ-ofZ-at _ (record { sfits = c .l .given })) (start .pre .each _ (in-getD (start .args .clause .now) (c .before .before .loop .i) (pos 0) (c .before .loop-test .taken)))
+    rw (toZ-ofZ-at _ (record { sfits = c .t8 .given })) (start .pre .each _ (in-getD (start .args .clause .now) (c .before .before .loop .i) (pos 0) (c .before .loop-test .taken)))
 
 -- what the test says, it says of the literal at i
 true-is : (c : tie.After-is-true Inv-loop μ-loop) → isTrue (c .before .before .before .before .before .args .values .now) (getD (c .before .before .before .before .before .args .clause .now) (c .before .before .before .loop .i) (pos 0)) ≡ c .is-true .result
 true-is c =
     let at-loop = c .before .before .before in
     let args = at-loop .before .before .args in
-    of-literal (isTrue (args .values .now)) (getD (args .clause .now) (at-loop .loop .i) (pos 0)) (record { sfits = c .before .l .given }) (c .is-true .ensures)
+    of-literal (isTrue (args .values .now)) (getD (args .clause .now) (at-loop .loop .i) (pos 0)) (record { sfits = c .before .t8 .given }) (c .is-true .ensures)
 
 returns : tie.Need-returns Inv-loop μ-loop
 returns c =
@@ -59,12 +60,12 @@ loop-again c =
     let found = c .before in
     let at-loop = found .before .before .before in
     let start = at-loop .before .before in
-    none-true-step (start .args .values .now) (start .args .clause .now) (at-loop .loop .i) (found .before .before .loop-test .taken) (at-loop .loop .inv) (true-is found ∙ c .if1 .left)
+    none-step (isTrue (start .args .values .now)) (start .args .clause .now) (at-loop .loop .i) (at-loop .loop .inv) (found .before .before .loop-test .taken) (true-is found ∙ c .if1 .left)
 
 returns-2 : tie.Need-returns-2 Inv-loop μ-loop
 returns-2 c =
     let start = c .before .before .before in
-    sym (none-true-done (start .args .values .now) (start .args .clause .now) (c .before .loop .i) (c .loop-test .left) (c .before .loop .inv))
+    sym (none-done (isTrue (start .args .values .now)) (start .args .clause .now) (c .before .loop .i) (c .before .loop .inv) (c .loop-test .left))
 
 pub has-true-spec : {M : Type 1} → statement M
 has-true-spec =
@@ -73,8 +74,8 @@ has-true-spec =
     Inv-loop
     μ-loop
     loop-holds
-    mul-l
-    shared-slice-copy-out-l
+    mul-t5
+    shared-slice-copy-out-t8
     is-true-requires
     returns
     add-i
