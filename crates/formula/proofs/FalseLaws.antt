@@ -2,13 +2,13 @@
 -- is none.
 --
 --   Looked, looked-start, looked-step, looked-stop, looked-done     the clauses so far have a true literal each
---   noneFound, satisfies-none     all clauses are true exactly if no false one is found
+--   isNothing, satisfies-found    all clauses are true exactly if no false one is found
 --
 -- Assumes nothing.
-use mathlib.Core.Path.{_≡_, refl, sym}
+use mathlib.Core.Path.{_≡_, refl, sym, _∙_, ap}
 use mathlib.Core.Bool.{Bool, true, false, not, _&&_}
 use mathlib.Core.List.{List, [], _∷_}
-use mathlib.Core.Option.{Option, none, some}
+use mathlib.Core.Option.{none, some}
 use Prim.Native.Nat.{ℕ, suc, _+_, _≤_, _<_}
 use native.Mathlib.Omega.{arith}
 use native.Mathlib.Numerals.{add-one}
@@ -16,6 +16,9 @@ use lib.ListN.{getD, length, drop, drop-of-length-le}
 use lib.Seq.{drop-cons}
 use Rattle.rules.specs.Lists.{orNext}
 use Rattle.rules.specs.Meaning.{Clause, Values, hasTrue, satisfies, firstFalseFrom, firstFalse}
+use Rattle.formula.specs.declared.first_false.FirstFalse.{FirstFalse}
+use Rattle.formula.specs.declared.first_false.FirstFalse.the-variants.{Nothing, Clause as Found}
+use Rattle.formula.specs.Formula.{firstFalseOf}
 
 -- ---- the loop
 
@@ -42,18 +45,18 @@ looked-done {F = F} {k = k} w h = rw (← w .behind, drop-of-length-le F {i = k}
 
 -- ---- all clauses are true
 
-abbrev pub noneFound : Option ℕ → Bool
-noneFound none = true
-noneFound (some n) = false
+abbrev pub isNothing : FirstFalse → Bool
+isNothing Nothing = true
+isNothing (Found n) = false
 
-none-from : (n : ℕ) (vs : Values) (F : List Clause) → satisfies vs F ≡ noneFound (firstFalseFrom n vs F)
+none-from : (n : ℕ) (vs : Values) (F : List Clause) → satisfies vs F ≡ isNothing (firstFalseOf (firstFalseFrom n vs F))
 none-from n vs [] = refl
 none-from n vs (cl ∷ F) = go (hasTrue vs cl) (none-from (suc n) vs F)
   where
-    go : (b : Bool) → satisfies vs F ≡ noneFound (firstFalseFrom (suc n) vs F)
-        → (b && satisfies vs F) ≡ noneFound (orNext (not b) n (firstFalseFrom (suc n) vs F))
+    go : (b : Bool) → satisfies vs F ≡ isNothing (firstFalseOf (firstFalseFrom (suc n) vs F))
+        → (b && satisfies vs F) ≡ isNothing (firstFalseOf (orNext (not b) n (firstFalseFrom (suc n) vs F)))
     go true e = e
     go false e = refl
 
-pub satisfies-none : (vs : Values) (F : List Clause) → satisfies vs F ≡ noneFound (firstFalse vs F)
-satisfies-none vs F = none-from 1 vs F
+pub satisfies-found : (vs : Values) (F : List Clause) (r : FirstFalse) → r ≡ firstFalseOf (firstFalse vs F) → satisfies vs F ≡ isNothing r
+satisfies-found vs F r e = none-from 1 vs F ∙ ap isNothing (sym e)

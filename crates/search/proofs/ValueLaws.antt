@@ -3,7 +3,6 @@
 --
 --   pred-of-add-one               the index that the code computes
 --   assign-of-set                 a literal made true by its variable and its sign
---   copied-more                   a copy of i bytes, and one more
 --   Passed, passed-start, passed-step, passed-unset, passed-done     no variable below i is unset
 --
 -- Assumes nothing.
@@ -33,19 +32,6 @@ assign-of-set vs l h = assign-set vs l (pred (varOf l)) (go (varOf l) h)
     go : (v : ℕ) → 1 ≤ v → pred v + 1 ≡ v
     go zero h = absurd (omega arith)
     go (suc v) h = omega arith
-
--- ---- a copy
-
-pub copied-more : (from to : List ℕ) (i : ℕ) → i < length from → i < length to
-    → set (take i from ++ drop i to) i (getD from i 0) ≡ take (i + 1) from ++ drop (i + 1) to
-copied-more from to i h k = rw (add-one i) (go from to i h k)
-  where
-    go : (from to : List ℕ) (i : ℕ) → i < length from → i < length to
-        → set (take i from ++ drop i to) i (getD from i 0) ≡ take (suc i) from ++ drop (suc i) to
-    go [] to i h k = absurd (omega arith)
-    go (x ∷ xs) [] i h k = absurd (omega arith)
-    go (x ∷ xs) (y ∷ ys) zero h k = refl
-    go (x ∷ xs) (y ∷ ys) (suc i) h k = ap (λ (l : List ℕ). x ∷ l) (go xs ys i (omega arith) (omega arith))
 
 -- ---- the lowest unset variable
 

@@ -1,4 +1,4 @@
-// Values that are lent, a byte for each variable: setting one, the choice, and a copy for taking back.
+// Values that are lent, a byte for each variable: setting one, and the choice.
 use formula::lit::sign;
 use formula::lit::var_of;
 use formula::value::byte_of;
@@ -6,9 +6,8 @@ use formula::value::index_of;
 use rules::Lit;
 use rules::Var;
 ghost use mathlib.Core.Path.{_≡_};
-ghost use mathlib.Core.List.{_++_};
 ghost use Prim.Native.Nat.{pred, _≤_};
-ghost use lib.ListN.{length, set, take, drop};
+ghost use lib.ListN.{length, set};
 ghost use Rattle.rules.specs.Numbers.{maxVars};
 ghost use Rattle.rules.specs.Meaning.{LitUpTo, assign};
 ghost use Rattle.rules.specs.Search.{lowestUnset};
@@ -68,18 +67,4 @@ pub fn lowest_unset(values: &[u8]) -> Choice
         i += 1;
     }
     Choice::AllSet
-}
-
-// Copies the first n bytes of one slice to another one, whose rest stays.
-// Rules out: the last byte left out; a cleared rest.
-// Required of: go_on and take_back, over at most 256 values; backbone::first::first_model, over buffers of one length.
-pub fn copy_first(from: &[u8], to: &mut [u8], n: usize)
-    requires { ⌜ (n ≤ length (now from)) × (n ≤ length (now to)) ⌝ }
-    ensures { λ _. ⌜ now (to .exit) ≡ take n (now (from .entry)) ++ drop n (now (to .entry)) ⌝ }
-{
-    let mut done = 0;
-    while done < n {
-        to[done] = from[done];
-        done += 1;
-    }
 }

@@ -1,7 +1,6 @@
--- The laws of specs/Flip: all clauses, one after the other; a variable flipped and taken back.
+-- The laws of specs/Flip: a variable flipped and taken back.
 --
 --   otherByte-high    the other byte of 2
---   AllSo, allSo-start, allSo-step, allSo-stop, allSo-done     the loop of `all_true`
 --   taken-back        a byte stored and stored back
 --   canFlip-is        what `can_flip` does
 --   Flipping, flipping-start, flipping-step, flipping-done     the loop of `flip`
@@ -25,25 +24,6 @@ use Rattle.steps.specs.Filter.{DropsAt}
 use Rattle.steps.specs.Flip.{CanFlip, FlipsAt, Flips}
 use Rattle.steps.proofs.FilterLaws.{drops-closed, Filtering, filtering-start, filtering-step, filtering-done}
 use Rattle.rules.proofs.ListLaws.{never, not-true, in-getD, getD-default, all-sound, all-append-of}
-
--- ---- all clauses
-
-pub record AllSo (vs : Values) (F : List Clause) (n : ℕ) : Type 0 where
-  pub within : n ≤ length F
-  pub so-far : satisfies vs (take n F) ≡ true
-
-pub allSo-start : (vs : Values) (F : List Clause) → AllSo vs F 0
-allSo-start vs F = record { within = omega arith; so-far = refl }
-
-pub allSo-step : {vs : Values} {F : List Clause} {n : ℕ} → AllSo vs F n → n < length F → hasTrue vs (getD F n []) ≡ true → AllSo vs F (n + 1)
-allSo-step {vs} {F} {n} w h e =
-    record { within = omega arith; so-far = rw (add-one, take-suc F n [] h) (all-append-of (hasTrue vs) (take n F) (getD F n [] ∷ []) (w .so-far) (rw e)) }
-
-pub allSo-stop : (vs : Values) (F : List Clause) (n : ℕ) → n < length F → hasTrue vs (getD F n []) ≡ false → satisfies vs F ≡ false
-allSo-stop vs F n h e = not-true (satisfies vs F) (λ s. never (all-sound (hasTrue vs) s (in-getD F n [] h)) e)
-
-pub allSo-done : {vs : Values} {F : List Clause} {n : ℕ} → AllSo vs F n → length F ≤ n → satisfies vs F ≡ true
-allSo-done {vs} {F} {n} w h = rw (take-all n F h) at (w .so-far)
 
 -- ---- a flip
 

@@ -31,7 +31,7 @@ use Rattle.search.proofs.call.+go_on+try_value.Lts-try_value as try-val
 use Rattle.search.proofs.call.take_back.Reads as take-back-reads
 use Rattle.search.proofs.close.close.Reads as close-reads
 use Rattle.search.proofs.meter.take_try.Reads as take-try-reads
-use Rattle.search.proofs.values.copy_first.Reads as copy-first-reads
+use Rattle.buffers.proofs.copy.copy_first.Reads as copy-first-reads
 use Rattle.search.proofs.values.lowest_unset.Reads as lowest-unset-reads
 use Rattle.search.proofs.values.set_value.Reads as set-value-reads
 use Rattle.search.proofs.values.unset_value.Reads as unset-value-reads

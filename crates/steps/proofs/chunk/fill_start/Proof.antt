@@ -6,7 +6,7 @@ use borrow.Author.Needs.{needs}
 use lib.ListN.{length, length-set}
 use Rattle.rules.specs.Run.{forcedValues}
 use Rattle.rules.proofs.StatusLaws.{length-forcedValues}
-use Rattle.steps.proofs.FillLaws.{Filled, filled-start, filled-step, filled-done}
+use Rattle.buffers.proofs.FillLaws.{Filled, filled-start, filled-step, filled-done}
 use Rattle.steps.proofs.ChunkLaws.{forcedValues-read}
 use Rattle.steps.proofs.chunk.fill_start.Statement.{statement}
 use Rattle.steps.proofs.chunk.fill_start.Tie as tie

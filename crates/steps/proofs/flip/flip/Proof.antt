@@ -13,11 +13,11 @@ use Rattle.steps.proofs.flip.flip.Statement.{statement}
 use Rattle.steps.proofs.flip.flip.Tie as tie
 
 abbrev Inv-loop : tie.InvT-loop
-Inv-loop entries starts count model₀ status₀ dropped₀ i₀ model status dropped i =
+Inv-loop entries starts model₀ status₀ dropped₀ i₀ model status dropped i =
     Flipping (clauses entries) model₀ status₀ dropped i model status
 
 abbrev μ-loop : tie.MeasureT-loop
-μ-loop entries starts count model₀ status₀ dropped₀ i₀ model status dropped i = length status - i
+μ-loop entries starts model₀ status₀ dropped₀ i₀ model status dropped i = length status - i
 
 loop-holds : tie.Need-loop-holds Inv-loop μ-loop
 loop-holds c = flipping-start _ _ _

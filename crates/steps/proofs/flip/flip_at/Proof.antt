@@ -7,11 +7,11 @@ use Rattle.steps.proofs.flip.flip_at.Tie as tie
 slice-read-if1 : tie.Need-slice-read-if1
 slice-read-if1 c = search needs
 
-cast-t14 : tie.Need-cast-t14
-cast-t14 c = search needs
+cast-t13 : tie.Need-cast-t13
+cast-t13 c = search needs
 
-add-t15 : tie.Need-add-t15
-add-t15 c = search needs
+add-t14 : tie.Need-add-t14
+add-t14 c = search needs
 
 can-flip-requires : tie.Need-can-flip-requires
 can-flip-requires c κs = search needs
@@ -36,8 +36,8 @@ flip-at-spec =
     tie.close
     (tie.spec
     slice-read-if1
-    cast-t14
-    add-t15
+    cast-t13
+    add-t14
     can-flip-requires
     drop-if-requires
     same-length

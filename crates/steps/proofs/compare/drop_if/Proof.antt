@@ -1,8 +1,8 @@
--- `filter::drop_if` meets its contract: by the law for each of its three ways. Assumes nothing.
+-- `compare::drop_if` meets its contract: by the law for each of its three ways. Assumes nothing.
 use borrow.Author.Needs.{needs}
 use Rattle.steps.proofs.FilterLaws.{drops-open, drops-closed, drops-not}
-use Rattle.steps.proofs.filter.drop_if.Statement.{statement}
-use Rattle.steps.proofs.filter.drop_if.Tie as tie
+use Rattle.steps.proofs.compare.drop_if.Statement.{statement}
+use Rattle.steps.proofs.compare.drop_if.Tie as tie
 
 slice-read-if2 : tie.Need-slice-read-if2
 slice-read-if2 c = search needs

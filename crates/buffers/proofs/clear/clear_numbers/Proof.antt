@@ -1,12 +1,12 @@
--- `buffer::clear_numbers` meets its contract. The invariant of its loop: the front is filled with zeros. Assumes nothing.
+-- `buffers::clear::clear_numbers` meets its contract. The invariant of its loop: the front is filled with zeros. Assumes nothing.
 use mathlib.Core.Path.{_≡_, refl, sym, _∙_}
 use Prim.Native.Nat.{ℕ, _-_}
 use native.Mathlib.Omega.{arith}
 use borrow.Author.Needs.{needs}
 use lib.ListN.{length, length-set, replicate, length-replicate, getD-replicate}
-use Rattle.steps.proofs.FillLaws.{Filled, filled-start, filled-step, filled-done}
-use Rattle.steps.proofs.buffer.clear_numbers.Statement.{statement}
-use Rattle.steps.proofs.buffer.clear_numbers.Tie as tie
+use Rattle.buffers.proofs.FillLaws.{Filled, filled-start, filled-step, filled-done}
+use Rattle.buffers.proofs.clear.clear_numbers.Statement.{statement}
+use Rattle.buffers.proofs.clear.clear_numbers.Tie as tie
 
 abbrev Inv-loop : tie.InvT-loop
 Inv-loop numbers₀ i₀ numbers i = (length numbers ≡ length numbers₀) × Filled (replicate (length numbers₀) 0) i numbers

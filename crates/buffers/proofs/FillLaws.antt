@@ -1,6 +1,7 @@
--- Filling a buffer from end to end, one element a turn.
+-- Filling a buffer, one element a turn.
 --
 --   Filled, filled-start, filled-step, filled-done     the loop that fills a buffer with a list of its length
+--   copied-more       a copy of i bytes, and one more
 --
 -- Assumes nothing.
 use mathlib.Core.Path.{_≡_, refl, sym, _∙_, ap}
@@ -8,7 +9,7 @@ use mathlib.Core.List.{List, [], _∷_, _++_}
 use Prim.Native.Nat.{ℕ, zero, suc, _+_, _≤_, _<_}
 use native.Mathlib.Omega.{arith}
 use native.Mathlib.Numerals.{add-one}
-use lib.ListN.{length, getD, set, take, length-set}
+use lib.ListN.{length, getD, set, take, drop, length-set}
 use lib.Seq.{take-suc, take-suc-set, take-all}
 
 -- the first i elements are those of the target
@@ -32,3 +33,16 @@ module _ {A : Type 0} where
   pub filled-done : {target now : List A} {i : ℕ} → Filled target i now → length now ≤ i → now ≡ target
   filled-done {target} {now} {i} w h =
       sym (take-all i now h) ∙ w .front ∙ take-all i target (omega (arith, w .len))
+
+-- ---- a copy
+
+pub copied-more : (from to : List ℕ) (i : ℕ) → i < length from → i < length to
+    → set (take i from ++ drop i to) i (getD from i 0) ≡ take (i + 1) from ++ drop (i + 1) to
+copied-more from to i h k = rw (add-one i) (go from to i h k)
+  where
+    go : (from to : List ℕ) (i : ℕ) → i < length from → i < length to
+        → set (take i from ++ drop i to) i (getD from i 0) ≡ take (suc i) from ++ drop (suc i) to
+    go [] to i h k = absurd (omega arith)
+    go (x ∷ xs) [] i h k = absurd (omega arith)
+    go (x ∷ xs) (y ∷ ys) zero h k = refl
+    go (x ∷ xs) (y ∷ ys) (suc i) h k = ap (λ (l : List ℕ). x ∷ l) (go xs ys i (omega arith) (omega arith))

@@ -1,4 +1,4 @@
--- `search::values::copy_first` meets its contract. The invariant of its loop: the first `done` bytes are copied. The measure is what is
+-- `buffers::copy::copy_first` meets its contract. The invariant of its loop: the first `done` bytes are copied. The measure is what is
 -- left. Assumes nothing.
 use mathlib.Core.Path.{_≡_, refl, _∙_, ap}
 use mathlib.Core.List.{List, _++_}
@@ -6,9 +6,9 @@ use Prim.Native.Nat.{ℕ, _-_, _≤_}
 use native.Mathlib.Omega.{arith}
 use lib.ListN.{getD, set, length, take, drop, length-set}
 use borrow.Author.Needs.{needs}
-use Rattle.search.proofs.ValueLaws.{copied-more}
-use Rattle.search.proofs.values.copy_first.Statement.{statement}
-use Rattle.search.proofs.values.copy_first.Tie as tie
+use Rattle.buffers.proofs.FillLaws.{copied-more}
+use Rattle.buffers.proofs.copy.copy_first.Statement.{statement}
+use Rattle.buffers.proofs.copy.copy_first.Tie as tie
 
 abbrev Inv-loop : tie.InvT-loop
 Inv-loop from to₀ n done₀ to done = (done ≤ n) × (to ≡ take done from ++ drop done to₀) × (length to ≡ length to₀)

@@ -1,12 +1,12 @@
--- `buffer::clear_bytes` meets its contract. The invariant of its loop: the front is filled with zeros. Assumes nothing.
+-- `buffers::clear::clear_bytes` meets its contract. The invariant of its loop: the front is filled with zeros. Assumes nothing.
 use mathlib.Core.Path.{_≡_, refl, sym, _∙_}
 use Prim.Native.Nat.{ℕ, _-_}
 use native.Mathlib.Omega.{arith}
 use borrow.Author.Needs.{needs}
 use lib.ListN.{length, length-set, replicate, length-replicate, getD-replicate}
-use Rattle.steps.proofs.FillLaws.{Filled, filled-start, filled-step, filled-done}
-use Rattle.steps.proofs.buffer.clear_bytes.Statement.{statement}
-use Rattle.steps.proofs.buffer.clear_bytes.Tie as tie
+use Rattle.buffers.proofs.FillLaws.{Filled, filled-start, filled-step, filled-done}
+use Rattle.buffers.proofs.clear.clear_bytes.Statement.{statement}
+use Rattle.buffers.proofs.clear.clear_bytes.Tie as tie
 
 abbrev Inv-loop : tie.InvT-loop
 Inv-loop bytes₀ i₀ bytes i = (length bytes ≡ length bytes₀) × Filled (replicate (length bytes₀) 0) i bytes

@@ -1,4 +1,4 @@
--- `filter::compare` meets its contract. The invariant of its loop: what is left is to free behind i, and what was dropped is counted.
+-- `compare::compare` meets its contract. The invariant of its loop: what is left is to free behind i, and what was dropped is counted.
 -- The measure is what is left of the length. Assumes nothing.
 use mathlib.Core.Path.{_≡_, refl, sym, _∙_, ap}
 use mathlib.Core.Bool.{not}
@@ -9,8 +9,8 @@ use lib.ListN.{length}
 use Rattle.rules.specs.Run.{isOpen, differs}
 use Rattle.rules.proofs.ListLaws.{count-le}
 use Rattle.steps.proofs.FilterLaws.{Filtering, filtering-start, filtering-step, filtering-done, differs-read}
-use Rattle.steps.proofs.filter.compare.Statement.{statement}
-use Rattle.steps.proofs.filter.compare.Tie as tie
+use Rattle.steps.proofs.compare.compare.Statement.{statement}
+use Rattle.steps.proofs.compare.compare.Tie as tie
 
 abbrev Inv-loop : tie.InvT-loop
 Inv-loop first model status₀ dropped₀ i₀ status dropped i = Filtering (differs first model) status₀ dropped i status

@@ -1,0 +1,3 @@
+// Buffers that are lent: clearing and copying.
+pub mod clear;
+pub mod copy;
