@@ -7,7 +7,7 @@ ghost use lib.Seq.{sets};
 ghost use Rattle.rules.specs.Numbers.{outcomeNumber};
 
 // What a row says of a call: what it ended with, the chunk taken, what compare and flip dropped, and the tries spent by then.
-pub struct Call {
+pub struct Row {
     pub outcome: rules::Outcome,
     pub chunk: u32,
     pub by_compare: u32,
@@ -18,16 +18,16 @@ pub struct Call {
 // Writes the row of a call behind those of the calls before it, which had spent so many tries.
 // Rules out: a row further down; two columns exchanged.
 // Required of: after_model, after_none and after_stop of chunks::step, which require it too; backbone::first::one_row, for row 1.
-pub fn put_row(log: &mut [u32], calls: u32, tries: u32, call: Call)
-    requires { ⌜ (6 * (calls + 1) ≤ length (now log)) × (tries ≤ call .spent) × (calls ≤ 256) ⌝ }
-    ensures { λ _. ⌜ now (log .exit) ≡ sets (now (log .entry)) (6 * calls) ((calls + 1) ∷ outcomeNumber (call .outcome) ∷ call .chunk ∷ call .«by_compare» ∷ call .«by_flip» ∷ (call .spent - tries) ∷ []) ⌝ }
+pub fn put_row(log: &mut [u32], calls: u32, tries: u32, row: Row)
+    requires { ⌜ (6 * (calls + 1) ≤ length (now log)) × (tries ≤ row .spent) × (calls ≤ 256) ⌝ }
+    ensures { λ _. ⌜ now (log .exit) ≡ sets (now (log .entry)) (6 * calls) ((calls + 1) ∷ outcomeNumber (row .outcome) ∷ row .chunk ∷ row .«by_compare» ∷ row .«by_flip» ∷ (row .spent - tries) ∷ []) ⌝ }
 {
     let at = 6 * calls as usize;
-    let outcome = call.outcome;
+    let outcome = row.outcome;
     log[at] = calls + 1;
     log[at + 1] = rules::numbers::outcome_number(outcome);
-    log[at + 2] = call.chunk;
-    log[at + 3] = call.by_compare;
-    log[at + 4] = call.by_flip;
-    log[at + 5] = call.spent - tries;
+    log[at + 2] = row.chunk;
+    log[at + 3] = row.by_compare;
+    log[at + 4] = row.by_flip;
+    log[at + 5] = row.spent - tries;
 }

@@ -1,3 +1,3 @@
 // The calls of a run after the first, and what the end of any call leaves (docs/RULES.md, "Run").
-pub mod calls;
-pub mod step;
+pub mod after;
+pub mod next;

@@ -1,26 +1,26 @@
--- The laws of specs/Calls: what a chunk's call needs and is, what its end says, and what each end makes of the run.
+-- The laws of specs/Next: what a chunk's call needs and is, what its end says, and what each end makes of the run.
 --
 --   constraint-up-to  the constraint is over the formula's variables
---   chunk-ready       what `go_on` needs
---   chunk-clauses     the clauses of the call, and its end by them
---   ends-model, ends-none, ends-stopped     the call, by what it ended with
+--   chunk-over        what `go_on` needs
+--   chunk-clauses, ends-same     the clauses of the call, and its end by them
+--   ends-model, ends-none, ends-stopped, ends-otherwise     the call, by what it ended with
 --   call-next         what comes of a call, whatever is done next
 --   size-le           a chunk size is within the limit
---   step-ready        there is room for one row more, and no count is out of range
+--   tally-ready       there is room for one row more, and no count is out of range
 --
 -- Assumes nothing.
-use mathlib.Core.Path.{_≡_, sym, _∙_, ap}
+use mathlib.Core.Path.{_≡_, refl, sym, _∙_, ap}
+use mathlib.Core.Logic.{_≢_, _⊎_, inl, inr}
 use mathlib.Core.List.{List, [], _∷_, _++_}
-use Prim.Native.Nat.{ℕ, zero, suc, _+_, _-_, _≤_, _<_, min}
+use Prim.Native.Nat.{ℕ, zero, suc, _+_, _≤_, _<_, min}
 use native.Mathlib.Omega.{arith}
-use native.Mathlib.Numerals.{add-one}
 use lib.IntN.{ℤ}
 use lib.ListN.{length, getD, take}
 use Rattle.rules.specs.declared.Outcome.{Outcome}
 use Rattle.rules.specs.Lists.{In, count}
 use Rattle.rules.specs.Numbers.{maxVars}
 use Rattle.rules.specs.Meaning.{Clause, Values, varOf, negated, clauses, LitUpTo}
-use Rattle.rules.specs.Search.{Call, model, no-model, stopped, outcomeOf, triesOf}
+use Rattle.rules.specs.Search.{Call, model, no-model, stopped, outcomeOf, triesOf, callOn}
 use Rattle.rules.specs.Run.{Task, Progress, statusAt, opens, candidatesFrom, constraint, chunkCall, Ended, onCall, onOpen}
 use Rattle.rules.specs.Trace.{Reached, first-model, next-model, next-none}
 use Rattle.rules.specs.Answer.{isFree, isForced}
@@ -31,15 +31,17 @@ use Rattle.rules.proofs.RunTrace.{doubled-is, known}
 use Rattle.rules.proofs.LogLaws.{calls-opens-le}
 use Rattle.formula.specs.Clauses.{ClauseUpTo}
 use Rattle.formula.specs.Starts.{callClauses}
-use Rattle.formula.proofs.ClauseLaws.{callClauses-constraint}
+use Rattle.formula.specs.Formula.{Formula}
+use Rattle.formula.proofs.ClauseLaws.{callClauses-constraint, length-starts}
 use Rattle.search.specs.declared.call.CallEnd.{CallEnd}
-use Rattle.search.specs.Calls.{CallReady, CallEnds}
-use Rattle.chunks.specs.declared.step.State.{State}
-use Rattle.steps.specs.Flip.{Formula}
-use Rattle.chunks.specs.Step.{StepReady}
-use Rattle.chunks.specs.Calls.{At}
+use Rattle.search.specs.Closings.{CallOver}
+use Rattle.search.specs.Calls.{CallEnds, valuesAfter}
+use Rattle.calls.specs.declared.after.Tally.{Tally}
+use Rattle.calls.specs.declared.after.Made.{Made}
+use Rattle.calls.specs.After.{TallyReady}
+use Rattle.calls.specs.Next.{At}
 use Rattle.steps.proofs.ConstraintLaws.{varOf-false}
-use Rattle.chunks.proofs.StepLaws.{length-logOfRows}
+use Rattle.calls.proofs.AfterLaws.{length-logOfRows}
 
 -- ---- the call
 
@@ -57,21 +59,19 @@ constraint-up-to first status n = record { each = λ l i. go l (map-in negated (
         let v : varOf l ≡ suc (0 + i) = ap varOf (e ∙ ap negated q) ∙ varOf-false (0 + i) (getD first i 1) in
         record { some = omega arith; most = omega (arith, open-in status i z) }
 
-module _ {es : List ℤ} {starts : List ℕ} {count n : ℕ} (f : Formula n es starts count) (con : Clause) where
-  pub chunk-ready : (vs : Values) → length vs ≡ n → ClauseUpTo n con → CallReady vs es starts con (count + 1)
-  chunk-ready vs e u =
-      record {
-        vars-fit = omega (arith, f .vars-fit);
-        well-formed =
-            record {
-              starts-are = f .starts-are;
-              over = rw e (record { entries-up-to = f .over .entries-up-to; constraint-up-to = u });
-              total-most = omega (arith, f .count-is);
-            };
-      }
+-- a call with the constraint behind the formula
+module _ {es : List ℤ} {starts : List ℕ} {n : ℕ} (f : Formula n es starts) (con : Clause) where
+  pub chunk-over : {vars : ℕ} → vars ≡ n → ClauseUpTo n con → CallOver vars es starts con (length starts)
+  chunk-over e u =
+      rw e (record { formula = f; constraint-up-to = u; total-most = omega (arith, length-starts f) })
 
-  pub chunk-clauses : callClauses es con (count + 1) ≡ clauses es ++ (con ∷ [])
-  chunk-clauses = ap (callClauses es con) (add-one count ∙ ap suc (f .count-is)) ∙ callClauses-constraint es con
+  pub chunk-clauses : callClauses es con (length starts) ≡ clauses es ++ (con ∷ [])
+  chunk-clauses = ap (callClauses es con) (length-starts f) ∙ callClauses-constraint es con
+
+-- the same clauses and the same values at the start
+pub ends-same : (t : ℕ) {F G : List Clause} {vs ws after : Values} {budget : ℕ} {r : CallEnd} → F ≡ G → vs ≡ ws
+    → CallEnds (callOn budget F vs t) vs budget r after → CallEnds (callOn budget G ws t) ws budget r after
+ends-same t e f w = rw (← e, ← f) w
 
 -- ---- what its end says
 
@@ -79,7 +79,7 @@ module _ {c : Call} {vs after : Values} {budget : ℕ} {r : CallEnd} (w : CallEn
   pub ends-model : r .outcome ≡ Outcome.Model → c ≡ model after (r .meter .spent)
   ends-model e = go c (w .outcome-is) (w .spent-is) (w .values-are)
     where
-      go : (c : Call) → r .outcome ≡ outcomeOf c → r .meter .spent ≡ triesOf c → after ≡ Rattle.search.specs.Calls.valuesAfter c vs → c ≡ model after (r .meter .spent)
+      go : (c : Call) → r .outcome ≡ outcomeOf c → r .meter .spent ≡ triesOf c → after ≡ valuesAfter c vs → c ≡ model after (r .meter .spent)
       go (model m t) o s v = cc
       go (no-model t) o s v = absurd (let y : _≡_ {A = ℕ} 0 1 = cc in omega arith)
       go (stopped t) o s v = absurd (let y : _≡_ {A = ℕ} 0 1 = cc in omega arith)
@@ -100,9 +100,21 @@ module _ {c : Call} {vs after : Values} {budget : ℕ} {r : CallEnd} (w : CallEn
       go (no-model t) o s = absurd (let y : _≡_ {A = ℕ} 0 1 = cc in omega arith)
       go (stopped t) o s = cc
 
+  -- a call that found no model: none, or stopped
+  pub ends-otherwise : r .outcome ≢ Outcome.Model
+      → ((c ≡ no-model (r .meter .spent)) × (r .outcome ≡ Outcome.NoModel)) ⊎ ((c ≡ stopped (r .meter .spent)) × (r .outcome ≡ Outcome.Stopped))
+  ends-otherwise ne = go (r .outcome) refl
+    where
+      go : (o : Outcome) → r .outcome ≡ o
+          → ((c ≡ no-model (r .meter .spent)) × (r .outcome ≡ Outcome.NoModel)) ⊎ ((c ≡ stopped (r .meter .spent)) × (r .outcome ≡ Outcome.Stopped))
+      go Outcome.Model e = absurd (ne e)
+      go Outcome.NoModel e = inl (ends-none e, e)
+      go Outcome.Stopped e = inr (ends-stopped e, e)
+
 -- ---- what comes of it
 
-pub call-next : (k : Task) (size : ℕ) (p : Progress) {n : ℕ} → opens (p .statuses) ≡ suc n → {c : Call} → chunkCall k p (min size (suc n)) ≡ c → (next : ℕ → Progress → Ended) → onOpen (opens (p .statuses)) k size p next ≡ onCall c k p size (min size (suc n)) next
+pub call-next : (k : Task) (size : ℕ) (p : Progress) {n : ℕ} → opens (p .statuses) ≡ suc n → {c : Call} → chunkCall k p (min size (suc n)) ≡ c
+    → (next : ℕ → Progress → Ended) → onOpen (opens (p .statuses)) k size p next ≡ onCall c k p size (min size (suc n)) next
 call-next k size p {n} o e next =
     ap (λ (j : ℕ). onOpen j k size p next) o ∙ ap (λ (c : Call). onCall c k p size (min size (suc n)) next) e
 
@@ -111,20 +123,24 @@ size-le h (first-model m t e) = h
 size-le h (next-model m t r o e) = h
 size-le h (next-none t r o e d) = omega (arith, doubled-is d)
 
--- ---- what a step needs
+-- ---- what is required behind a call
 
-pub step-ready : {k : Task} {s : State} {first status log : List ℕ} → 1 ≤ k .limit → k .vars ≤ maxVars → (w : At k s first status log) → 1 ≤ s .left → (spent : ℕ) → s .tries ≤ spent → StepReady first status log s spent
-step-ready {k} {s} {first} {status} {log} limit v w some spent t =
+pub tally-ready : {k : Task} {t : Tally} {first status log : List ℕ} → 1 ≤ k .limit → k .vars ≤ maxVars → (w : At k t first status log)
+    → 1 ≤ t .candidates → (made : Made) → t .tries ≤ made .spent → TallyReady first status log t made
+tally-ready {k} {t} {first} {status} {log} limit v w some made up =
     let x = w .shows in
     let n = known (w .reached) in
     let r = calls-opens-le limit (w .reached) in
     record {
+      row =
+          record {
+            log-room = omega (arith, ap length (x .log-is), length-logOfRows (k .vars) (w .progress .rows), x .calls-is, x .candidates-are, r);
+            calls-fit = omega (arith, x .calls-is, x .candidates-are, r);
+            tries-up = up;
+          };
       len = ap length (x .first-is) ∙ first-model-is n .len ∙ sym (n .len) ∙ sym (ap length (x .status-is));
       vars-fit = omega (arith, ap length (x .status-is), n .len);
-      log-room = omega (arith, ap length (x .log-is), length-logOfRows (k .vars) (w .progress .rows), x .calls-is, x .left-is, r);
-      calls-fit = omega (arith, x .calls-is, x .left-is, r);
-      left-is = x .left-is ∙ ap opens (sym (x .status-is));
+      candidates-are = x .candidates-are ∙ ap opens (sym (x .status-is));
       free-fit = omega (arith, x .free-is, count-le isFree (w .progress .statuses), n .len);
       forced-fit = omega (arith, x .forced-is, count-le isForced (w .progress .statuses), n .len);
-      tries-up = t;
     }

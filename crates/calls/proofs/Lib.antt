@@ -1,0 +1,5 @@
+-- Laws that belong to no one function.
+pub mod AfterLaws
+pub mod CallLaws
+pub mod NextLaws
+pub mod LoopLaws

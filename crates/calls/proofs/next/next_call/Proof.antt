@@ -1,0 +1,150 @@
+-- `next::next_call` meets its contract: what comes of the call, by what it ended with. Assumes nothing.
+use mathlib.Core.Path.{_≡_, sym, _∙_}
+use native.Mathlib.Omega.{arith}
+use borrow.Author.Needs.{needs}
+use lib.ListN.{length}
+use Rattle.calls.specs.declared.after.Made.{Made}
+use Rattle.calls.specs.After.{TallyReady}
+use Rattle.calls.proofs.CallLaws.{tally-ready, size-le}
+use Rattle.calls.proofs.NextLaws.{call-up, meterOf, on-model, on-none, on-stopped}
+use Rattle.calls.proofs.next.next_call.Statement.{statement}
+use Rattle.calls.proofs.next.next_call.Tie as tie
+
+-- ---- the places: where the function starts, and behind its call
+
+abbrev start : tie.After-lesser → tie.Start
+start c = c .before .before .before .before .before .before
+
+abbrev took : tie.After-chunk-call → tie.After-lesser
+took c = c .before .before .before
+
+abbrev called : tie.After-after → tie.After-chunk-call
+called c = c .before .before .before
+
+-- the call as it was made
+abbrev made : tie.After-chunk-call → Made
+made c = record { chunk = took c .lesser .result; spent = c .chunk-call .result .meter .spent }
+
+-- ---- the answers
+
+lesser-requires : tie.Need-lesser-requires
+lesser-requires c κs = search needs
+
+chunk-call-requires : tie.Need-chunk-call-requires
+chunk-call-requires c κs =
+    let l = c .before .before in
+    let s = start l in
+    let p = s .pre in
+    let ready = tally-ready (p .2 .some) (p .0 .vars-fit) (p .3) (p .4) (record { chunk = 0; spent = s .args .t .tries }) (omega arith) in
+    (rw (p .1) (p .0), ready .len ∙ sym (p .1), sym (p .1), omega (arith, l .lesser .ensures, ready .candidates-are))
+
+-- what is required behind the call
+ready : (c : tie.After-chunk-call) → let s = start (took c) in TallyReady (s .args .first .now) (s .args .status .now) (s .args .log .now) (s .args .t) (made c)
+ready c =
+    let s = start (took c) in
+    let p = s .pre in
+    tally-ready (p .2 .some) (p .0 .vars-fit) (p .3) (p .4) (made c) (call-up (s .args .entries .now) (s .args .first .now) (s .args .status .now) (took c .lesser .result) (meterOf (s .args .limits) (s .args .t)) (c .chunk-call .ensures))
+
+enum-told : tie.Need-enum-told
+enum-told c = search needs
+
+after-model-requires : tie.Need-after-model-requires
+after-model-requires c κs =
+    let call = called (c .before .before .before .before .before) in
+    let s = start (took call) in
+    let len : length (call .chunk-call .last .1 .1 .1 .1 .0) ≡ length (s .args .status .now) = call .chunk-call .kept .1 .1 .1 .1 .0 ∙ s .pre .1 in
+    (rw len (s .pre .0), ready call, len)
+
+enum-told-2 : tie.Need-enum-told-2
+enum-told-2 c = search needs
+
+after-none-requires : tie.Need-after-none-requires
+after-none-requires c κs =
+    let call = called (c .before .before .before .before) in
+    let s = start (took call) in
+    (ready call, omega (arith, took call .lesser .ensures), omega (arith, size-le (s .pre .2 .some) (s .pre .3 .reached), s .pre .2 .most))
+
+enum-told-3 : tie.Need-enum-told-3
+enum-told-3 c = search needs
+
+row-only-requires : tie.Need-row-only-requires
+row-only-requires c κs = ready (called (c .before .before .before)) .row
+
+same-length : tie.Need-same-length
+same-length c = search needs
+
+same-length-2 : tie.Need-same-length-2
+same-length-2 c = search needs
+
+same-length-3 : tie.Need-same-length-3
+same-length-3 c = search needs
+
+returns : tie.Need-returns
+returns c =
+    let told = c .before .before .before .before .before .before .before .before .before .before in
+    let call = called (told .before .before) in
+    let l = took call in
+    let s = start l in
+    λ w. on-model (s .args .entries .now) (length (s .args .status .now)) (s .args .limits) w (s .pre .2 .some) (s .pre .4)
+    (ready call .row .log-room) (l .lesser .result) (l .lesser .ensures) (call .chunk-call .ensures) (told .enum-told .given .1) (c .before .before .before .before .before .before .after-model .ensures)
+
+same-length-4 : tie.Need-same-length-4
+same-length-4 c = search needs
+
+same-length-5 : tie.Need-same-length-5
+same-length-5 c = search needs
+
+same-length-6 : tie.Need-same-length-6
+same-length-6 c = search needs
+
+returns-2 : tie.Need-returns-2
+returns-2 c =
+    let told = c .before .before .before .before .before .before .before in
+    let call = called (told .before .before) in
+    let l = took call in
+    let s = start l in
+    λ w. on-none (s .args .entries .now) (length (s .args .status .now)) (s .args .limits) w (s .pre .2 .some) (s .pre .4)
+    (ready call .row .log-room) (l .lesser .result) (l .lesser .ensures) (call .chunk-call .ensures) (told .enum-told2 .given .1) (c .before .before .before .before .after-none .ensures)
+
+same-length-7 : tie.Need-same-length-7
+same-length-7 c = search needs
+
+same-length-8 : tie.Need-same-length-8
+same-length-8 c = search needs
+
+same-length-9 : tie.Need-same-length-9
+same-length-9 c = search needs
+
+returns-3 : tie.Need-returns-3
+returns-3 c =
+    let told = c .before .before .before .before in
+    let call = called (told .before .before) in
+    let l = took call in
+    let s = start l in
+    λ w. on-stopped (s .args .entries .now) (length (s .args .status .now)) (s .args .limits) w (s .pre .2 .some) (s .pre .4)
+    (ready call .row .log-room) (l .lesser .result) (l .lesser .ensures) (call .chunk-call .ensures) (told .enum-told3 .given .1) (c .before .before .row-only .ensures)
+
+pub next-call-spec : {M : Type 1} → statement M
+next-call-spec =
+    tie.close
+    (tie.spec
+    lesser-requires
+    chunk-call-requires
+    enum-told
+    after-model-requires
+    enum-told-2
+    after-none-requires
+    enum-told-3
+    row-only-requires
+    same-length
+    same-length-2
+    same-length-3
+    returns
+    same-length-4
+    same-length-5
+    same-length-6
+    returns-2
+    same-length-7
+    same-length-8
+    same-length-9
+    returns-3)

@@ -1,0 +1,144 @@
+// The calls of a run after the first (docs/RULES.md, "Run"): while candidates remain, a call on the formula, the literals forced so far,
+// and that one of the chunk is false.
+use crate::after::Made;
+use crate::after::Tally;
+use crate::after::after_model;
+use crate::after::after_none;
+use crate::after::row_only;
+use rules::Outcome;
+use rules::Report;
+use rules::RunAnswer;
+use search::call::CallEnd;
+use search::call::go_on;
+use search::meter::Meter;
+ghost use mathlib.Core.Path.{_≡_};
+ghost use Prim.Native.Nat.{_≤_, min};
+ghost use lib.ListN.{length};
+ghost use Rattle.rules.specs.Run.{opens, forcedValues, chunks};
+ghost use Rattle.formula.specs.Formula.{Formula};
+ghost use Rattle.search.specs.Calls.{CallEnds};
+ghost use Rattle.calls.specs.After.{EndsAt};
+ghost use Rattle.calls.specs.Next.{Allowed, At, Called, chunkOn, task};
+
+// How many tries the run may take, and how many candidates a call.
+pub struct Limits {
+    pub budget: u32,
+    pub chunk: u32,
+}
+
+// The lesser of two numbers.
+fn lesser(a: u32, b: u32) -> u32
+    ensures { λ r. ⌜ r ≡ min a b ⌝ }
+{
+    if a < b { a } else { b }
+}
+
+// A call from the forced values, with the constraint of a chunk as the clause after the last one.
+// Rules out: a call on the formula alone; the constraint of the chunk before.
+// Required of: next_call, by At.
+fn chunk_call(
+    entries: &[i32],
+    starts: &[u16],
+    first: &[u8],
+    status: &[u8],
+    values: &mut [u8],
+    chunk: u32,
+    meter: Meter,
+) -> CallEnd
+    requires { ⌜ Formula (length (now values)) (now entries) (now starts) × (length (now first) ≡ length (now values)) × (length (now status) ≡ length (now values)) × (chunk ≤ opens (now status)) ⌝ }
+    ensures { λ r. ⌜ CallEnds (chunkOn (now (entries .entry)) (now (first .entry)) (now (status .entry)) chunk meter) (forcedValues (now (status .entry))) (meter .budget) r (now (values .exit)) ⌝ }
+{
+    steps::chunk::fill_start(status, values);
+    let mut literals = [0i32; 256];
+    let n = chunk as usize;
+    steps::constraint::put_constraint(first, status, n, &mut literals);
+    let total = starts.len() as u32;
+    go_on(entries, starts, &literals[..n], total, values, meter)
+}
+
+// What comes of a call: the run goes on, or it ends there and returns.
+pub enum Next {
+    GoesOn(Tally),
+    Ends(Report),
+}
+
+// One call, and what it leaves. A model is compared and flipped before the next call can write over it.
+// Rules out: two calls at once; the flip kept in the model.
+// Required of: run_calls, while candidates remain.
+fn next_call(
+    entries: &[i32],
+    starts: &[u16],
+    first: &[u8],
+    status: &mut [u8],
+    log: &mut [u32],
+    values: &mut [u8],
+    t: Tally,
+    limits: Limits,
+) -> Next
+    requires { ⌜ Formula (length (now status)) (now entries) (now starts) × (length (now values) ≡ length (now status)) × Allowed limits × At (task (now entries) (length (now status)) limits) t (now first) (now status) (now log) × (1 ≤ t .candidates) ⌝ }
+    ensures { λ r. ⌜ ((w : At (task (now (entries .entry)) (length (now (status .entry))) limits) t (now (first .entry)) (now (status .entry)) (now (log .entry))) → Called (task (now (entries .entry)) (length (now (status .entry))) limits) (t .size) (w .progress) (now (first .entry)) r (now (status .exit)) (now (log .exit)) (now (values .exit))) ⌝ }
+{
+    let chunk = lesser(t.size, t.candidates);
+    let meter = Meter {
+        budget: limits.budget,
+        spent: t.tries,
+    };
+    let end = chunk_call(entries, starts, first, status, values, chunk, meter);
+    let after = end.meter;
+    let made = Made {
+        chunk: chunk,
+        spent: after.spent,
+    };
+    let outcome = end.outcome;
+    match outcome {
+        Outcome::Model => Next::GoesOn(after_model(
+            entries,
+            starts,
+            first,
+            values,
+            status,
+            log,
+            t,
+            made,
+        )),
+        Outcome::NoModel => Next::GoesOn(after_none(first, status, log, t, made, limits.chunk)),
+        Outcome::Stopped => Next::Ends(row_only(log, t, Outcome::Stopped, made)),
+    }
+}
+
+// While candidates remain, one call after the other; then what the run returns. The values are the calls' to write: nothing is said
+// of what the last one left there.
+// Rules out: one call too few; going on after a stop.
+// Required of: backbone::first::settle, behind the first model.
+pub fn run_calls(
+    entries: &[i32],
+    starts: &[u16],
+    first: &[u8],
+    status: &mut [u8],
+    log: &mut [u32],
+    values: &mut [u8],
+    t: Tally,
+    limits: Limits,
+) -> Report
+    requires { ⌜ Formula (length (now status)) (now entries) (now starts) × (length (now values) ≡ length (now status)) × Allowed limits × At (task (now entries) (length (now status)) limits) t (now first) (now status) (now log) ⌝ }
+    ensures { λ r. ⌜ ((w : At (task (now (entries .entry)) (length (now (status .entry))) limits) t (now (first .entry)) (now (status .entry)) (now (log .entry))) → EndsAt (length (now (status .entry))) (chunks (task (now (entries .entry)) (length (now (status .entry))) limits) (t .size) (w .progress)) r (now (status .exit)) (now (log .exit))) ⌝ }
+{
+    let mut tally = t;
+    while 0 < tally.candidates {
+        match next_call(entries, starts, first, status, log, values, tally, limits) {
+            Next::GoesOn(next) => {
+                tally = next;
+            }
+            Next::Ends(report) => {
+                return report;
+            }
+        }
+    }
+    Report {
+        answer: RunAnswer::Settled,
+        calls: tally.calls,
+        tries: tally.tries,
+        forced: tally.forced,
+        free: tally.free,
+    }
+}

@@ -1,4 +1,0 @@
-pub mod StepLaws
-pub mod CallLaws
-pub mod NextLaws
-pub mod LoopLaws
