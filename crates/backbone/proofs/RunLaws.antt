@@ -3,7 +3,7 @@
 --   runs-refused      a refused run: zero counts, and nothing is written
 --   runs-accepted     an accepted one: the run over the fronts of the buffers
 --   accepted          what no rule refuses
---   listing           and the fronts of its buffers
+--   is-formula, clauses-most, log-len, allowed     and what its run requires
 --
 -- Assumes nothing.
 use mathlib.Core.Path.{_≡_, refl, sym, _∙_, ap}
@@ -15,14 +15,20 @@ use lib.ListN.{length, take, drop}
 use lib.Seq.{length-take-le}
 use Rattle.rules.specs.declared.RunAnswer.{RunAnswer}
 use Rattle.rules.specs.declared.Report.{Report}
+use Rattle.rules.specs.Numbers.{maxClauses}
+use Rattle.rules.specs.Meaning.{clauses}
 use Rattle.rules.specs.Run.{Task, run}
 use Rattle.rules.specs.Answer.{Given, logLength, refusalOf, taskOf, reportIf, reportOf, statusIf, statusAfter, logOfRows, logIf, logAfter, Runs}
 use Rattle.rules.specs.RunRefusals.{Accepted}
 use Rattle.rules.proofs.RefusedRuns.{run-accepted}
 use Rattle.refusals.specs.declared.Refusal.the-variants.{Accepted as NotRefused, Refused}
 use Rattle.refusals.specs.Refuse.{found}
-use Rattle.chunks.specs.Calls.{task}
-use Rattle.backbone.specs.First.{RunDone, Listing}
+use Rattle.formula.specs.Starts.{startsOf}
+use Rattle.formula.specs.Formula.{Formula}
+use Rattle.calls.specs.declared.next.Limits.{Limits}
+use Rattle.calls.specs.Next.{Allowed, task}
+use Rattle.backbone.specs.First.{RunDone}
+use Rattle.backbone.proofs.ListingLaws.{length-clauses}
 
 found-some : (o : Option RunAnswer) {a : RunAnswer} → Refused a ≡ found o → o ≡ some a
 found-some none e = absurd (let y : _≡_ {A = ℕ} 0 1 = cc in omega arith)
@@ -31,6 +37,10 @@ found-some (some b) e = cc
 found-none : (o : Option RunAnswer) → NotRefused ≡ found o → o ≡ none
 found-none none e = refl
 found-none (some b) e = absurd (let y : _≡_ {A = ℕ} 0 1 = cc in omega arith)
+
+-- the limits that a run is given
+abbrev pub limitsOf : Given → Limits
+limitsOf g = record { budget = g .budget; chunk = g .limit }
 
 module _ (g : Given) where
   pub runs-refused : {a : RunAnswer} → Refused a ≡ found (refusalOf g) → Runs g (record { answer = a; calls = 0; tries = 0; forced = 0; free = 0 }) (g .status) (g .log)
@@ -50,21 +60,26 @@ module _ (g : Given) where
     status-len : length (take (g .vars) (g .status)) ≡ g .vars
     status-len = length-take-le (g .vars) (g .status) (accepted .listed .lent .status-fits)
 
-    pub listing : Listing (g .entries) (g .limit) (take (g .vars) (g .status)) (take (logLength (g .vars)) (g .log))
-    listing =
-        let l = accepted .listed in
-        let i = l .lent .in-limits in
+    pub is-formula : Formula (length (take (g .vars) (g .status))) (g .entries) (startsOf (g .entries))
+    is-formula =
         record {
-          vars-fit = rw status-len (i .vars-fit);
-          log-len = length-take-le (logLength (g .vars)) (g .log) (l .lent .log-fits) ∙ ap logLength (sym status-len);
-          limit-some = i .limit-some;
-          limit-fits = i .limit-fits;
-          entries-fit = l .entries-fit;
-          clauses-fit = l .clauses-fit;
+          vars-fit = rw status-len (accepted .listed .lent .in-limits .vars-fit);
+          starts-fit = omega (arith, accepted .listed .entries-fit);
+          starts-are = refl;
           up-to = rw status-len (accepted .up-to);
         }
 
-    pub runs-accepted : {r : Report} {status log : List ℕ} → RunDone (task (g .entries) (length (take (g .vars) (g .status))) (g .budget) (g .limit)) r status log → Runs g r (status ++ drop (g .vars) (g .status)) (log ++ drop (logLength (g .vars)) (g .log))
+    pub clauses-most : length (clauses (g .entries)) ≤ maxClauses
+    clauses-most = omega (arith, length-clauses (g .entries), accepted .listed .clauses-fit)
+
+    pub log-len : length (take (logLength (g .vars)) (g .log)) ≡ logLength (length (take (g .vars) (g .status)))
+    log-len = length-take-le (logLength (g .vars)) (g .log) (accepted .listed .lent .log-fits) ∙ ap logLength (sym status-len)
+
+    pub allowed : Allowed (limitsOf g)
+    allowed = record { some = accepted .listed .lent .in-limits .limit-some; most = accepted .listed .lent .in-limits .limit-fits }
+
+    pub runs-accepted : {r : Report} {status log : List ℕ} → RunDone (task (g .entries) (length (take (g .vars) (g .status))) (limitsOf g)) r status log
+        → Runs g r (status ++ drop (g .vars) (g .status)) (log ++ drop (logLength (g .vars)) (g .log))
     unfolding reportOf statusAfter logAfter
     runs-accepted {r} {status} {log} w = go (rw status-len at w)
       where

@@ -1,204 +1,172 @@
 // The first call of a run (docs/RULES.md, "Run"), on the formula alone, and what follows from it.
+use buffers::clear::clear_bytes;
+use buffers::clear::clear_numbers;
+use buffers::copy::copy_first;
+use calls::after::Made;
+use calls::after::Tally;
+use calls::after::after_model;
+use calls::after::row_only;
+use calls::next::Limits;
+use calls::next::run_calls;
+use formula::starts::find_starts;
+use rules::Outcome;
+use rules::Report;
+use search::call::CallEnd;
+use search::call::go_on;
+use search::meter::Meter;
 ghost use mathlib.Core.Path.{_≡_};
 ghost use Prim.Native.Nat.{_≤_};
 ghost use lib.ListN.{length};
+ghost use Rattle.rules.specs.Numbers.{maxClauses};
+ghost use Rattle.rules.specs.Meaning.{clauses};
 ghost use Rattle.rules.specs.Search.{model};
-ghost use Rattle.rules.specs.Run.{firstCall};
-ghost use Rattle.rules.specs.Numbers.{maxChunk};
-ghost use Rattle.search.specs.Calls.{valuesAfter};
-ghost use Rattle.steps.specs.Flip.{Formula};
-ghost use Rattle.chunks.specs.Calls.{Ready, task};
-ghost use Rattle.backbone.specs.First.{Cleared, OneRow, RunDone, Listing, answerOf};
+ghost use Rattle.rules.specs.Run.{blank, firstCall};
+ghost use Rattle.rules.specs.Answer.{logLength};
+ghost use Rattle.formula.specs.Starts.{startsOf};
+ghost use Rattle.formula.specs.Formula.{Formula};
+ghost use Rattle.search.specs.Calls.{valuesAfter, CallEnds};
+ghost use Rattle.calls.specs.Next.{Allowed, task};
+ghost use Rattle.backbone.specs.First.{Cleared, RunDone, firstOn, started};
 
-// The answer of a run whose first call found no model.
-fn answer_of(outcome: rules::Outcome) -> rules::RunAnswer
-    ensures { λ r. ⌜ r ≡ answerOf outcome ⌝ }
+// The first call, from no value, on the formula alone.
+// Rules out: a call from the values that were there; one that starts with a try spent.
+// Required of: all_calls, which requires it too.
+fn first_call(entries: &[i32], starts: &[u16], values: &mut [u8], budget: u32) -> CallEnd
+    requires { ⌜ Formula (length (now values)) (now entries) (now starts) ⌝ }
+    ensures { λ r. ⌜ CallEnds (firstOn (now (entries .entry)) (length (now (values .entry))) budget) (blank (length (now (values .entry)))) budget r (now (values .exit)) ⌝ }
 {
-    match outcome {
-        rules::Outcome::Model => rules::RunAnswer::Settled,
-        rules::Outcome::NoModel => rules::RunAnswer::NoModel,
-        rules::Outcome::Stopped => rules::RunAnswer::Stopped,
-    }
+    clear_bytes(values);
+    let total = (starts.len() - 1) as u32;
+    go_on(
+        entries,
+        starts,
+        &entries[..0],
+        total,
+        values,
+        Meter {
+            budget: budget,
+            spent: 0,
+        },
+    )
 }
 
-// The first call found no model, or was stopped: one row, and all variables stay open.
-fn one_row(log: &mut [u32], outcome: rules::Outcome, spent: u32) -> rules::Report
-    requires { ⌜ 6 ≤ length (now log) ⌝ }
-    ensures { λ r. ⌜ OneRow outcome spent (now (log .entry)) r (now (log .exit)) ⌝ }
+// Before the first call: every variable is a candidate, and nothing is counted.
+fn started(vars: u32) -> Tally
+    ensures { λ r. ⌜ r ≡ started vars ⌝ }
 {
-    steps::row::put_row(
-        log,
-        0,
-        0,
-        steps::row::Call {
-            outcome: outcome,
-            chunk: 0,
-            by_compare: 0,
-            by_flip: 0,
-            spent: spent,
-        },
-    );
-    rules::Report {
-        answer: answer_of(outcome),
-        calls: 1,
-        tries: spent,
-        forced: 0,
+    Tally {
+        size: 1,
+        candidates: vars,
+        calls: 0,
+        tries: 0,
         free: 0,
+        forced: 0,
     }
 }
 
 // A model: its literals are the candidates. It is kept as the first one, compared and flipped, and the other calls follow.
-fn first_model(
+// Rules out: a report before the other calls; the last model for the first.
+// Required of: all_calls, where the first call has found a model.
+fn settle(
     entries: &[i32],
     starts: &[u16],
-    count: u32,
     values: &mut [u8],
     first: &mut [u8],
     status: &mut [u8],
     log: &mut [u32],
-    budget: u32,
-    limit: u32,
     spent: u32,
-) -> rules::Report
-    requires { ⌜ Ready (task (now entries) (length (now status)) budget limit) (now entries) (now starts) count (now status) (now values) × Cleared (now status) (now log) × (length (now first) ≡ length (now status)) × (firstCall (task (now entries) (length (now status)) budget limit) ≡ model (now values) spent) ⌝ }
-    ensures { λ r. ⌜ RunDone (task (now (entries .entry)) (length (now (status .entry))) budget limit) r (now (status .exit)) (now (log .exit)) × (now (first .exit) ≡ now (values .entry)) ⌝ }
+    limits: Limits,
+) -> Report
+    requires { ⌜ Formula (length (now status)) (now entries) (now starts) × (length (now values) ≡ length (now status)) × (length (now first) ≡ length (now status)) × Cleared (now status) (now log) × Allowed limits × (firstCall (task (now entries) (length (now status)) limits) ≡ model (now values) spent) ⌝ }
+    ensures { λ r. ⌜ RunDone (task (now (entries .entry)) (length (now (status .entry))) limits) r (now (status .exit)) (now (log .exit)) × (now (first .exit) ≡ now (values .entry)) ⌝ }
 {
-    search::values::copy_first(values, first, values.len());
-    let n = values.len() as u32;
-    let s = chunks::step::after_model(
-        entries,
-        starts,
-        count,
-        first,
-        values,
-        status,
-        log,
-        chunks::step::State {
-            size: 1,
-            left: n,
-            calls: 0,
-            tries: 0,
-            free: 0,
-            forced: 0,
-        },
-        0,
-        spent,
-    );
-    chunks::calls::run_chunks(
-        entries,
-        starts,
-        count,
-        first,
-        status,
-        log,
-        values,
-        s,
-        budget,
-        limit,
-    )
+    copy_first(values, first, values.len());
+    let t = started(values.len() as u32);
+    let made = Made {
+        chunk: 0,
+        spent: spent,
+    };
+    let next = after_model(entries, starts, first, values, status, log, t, made);
+    run_calls(entries, starts, first, status, log, values, next, limits)
 }
 
-// The first call, from no value, on the formula alone, and the run that follows from it.
-fn first_call(
+// All calls: a first model is settled by the calls that follow; anything else is one row.
+// Rules out: going on where there is no model; statuses marked before there is one.
+// Required of: room_for_values, with all variables open and no row.
+fn all_calls(
     entries: &[i32],
     starts: &[u16],
-    count: u32,
     values: &mut [u8],
     first: &mut [u8],
     status: &mut [u8],
     log: &mut [u32],
-    budget: u32,
-    limit: u32,
-) -> rules::Report
-    requires { ⌜ Ready (task (now entries) (length (now status)) budget limit) (now entries) (now starts) count (now status) (now values) × Cleared (now status) (now log) × (length (now first) ≡ length (now status)) ⌝ }
-    ensures { λ r. ⌜ RunDone (task (now (entries .entry)) (length (now (status .entry))) budget limit) r (now (status .exit)) (now (log .exit)) × (now (first .exit) ≡ valuesAfter (firstCall (task (now (entries .entry)) (length (now (status .entry))) budget limit)) (now (first .entry))) ⌝ }
+    limits: Limits,
+) -> Report
+    requires { ⌜ Formula (length (now status)) (now entries) (now starts) × (length (now values) ≡ length (now status)) × (length (now first) ≡ length (now status)) × Cleared (now status) (now log) × Allowed limits ⌝ }
+    ensures { λ r. ⌜ RunDone (task (now (entries .entry)) (length (now (status .entry))) limits) r (now (status .exit)) (now (log .exit)) × (now (first .exit) ≡ valuesAfter (firstCall (task (now (entries .entry)) (length (now (status .entry))) limits)) (now (first .entry))) ⌝ }
 {
-    steps::buffer::clear_bytes(values);
-    let end = search::call::go_on(
-        entries,
-        starts,
-        &entries[..0],
-        count,
-        values,
-        search::meter::Meter {
-            budget: budget,
-            spent: 0,
-        },
-    );
+    let end = first_call(entries, starts, values, limits.budget);
     let meter = end.meter;
     let spent = meter.spent;
     let outcome = end.outcome;
-    match outcome {
-        rules::Outcome::Model => first_model(
-            entries,
-            starts,
-            count,
-            values,
-            first,
-            status,
-            log,
-            budget,
-            limit,
-            spent,
-        ),
-        rules::Outcome::NoModel => one_row(log, rules::Outcome::NoModel, spent),
-        rules::Outcome::Stopped => one_row(log, rules::Outcome::Stopped, spent),
+    if let Outcome::Model = outcome {
+        return settle(entries, starts, values, first, status, log, spent, limits);
     }
-}
-
-// The run with room for two models: the first one, and the one that the call before left.
-fn room_for_models(
-    entries: &[i32],
-    starts: &[u16],
-    count: u32,
-    status: &mut [u8],
-    log: &mut [u32],
-    budget: u32,
-    limit: u32,
-) -> rules::Report
-    requires { ⌜ Formula (length (now status)) (now entries) (now starts) count × Cleared (now status) (now log) × (1 ≤ limit) × (limit ≤ maxChunk) ⌝ }
-    ensures { λ r. ⌜ RunDone (task (now (entries .entry)) (length (now (status .entry))) budget limit) r (now (status .exit)) (now (log .exit)) ⌝ }
-{
-    let n = status.len();
-    let mut values = [0u8; 256];
-    let mut first = [0u8; 256];
-    first_call(
-        entries,
-        starts,
-        count,
-        &mut values[..n],
-        &mut first[..n],
-        status,
+    row_only(
         log,
-        budget,
-        limit,
+        started(status.len() as u32),
+        outcome,
+        Made {
+            chunk: 0,
+            spent: spent,
+        },
     )
 }
 
-// The run of a list that no rule refuses: every variable open, no row, and where the clauses start, once for all calls.
+// The run with room for the values of its calls.
+// Rules out: a first model that is not kept; a run over more variables than there are statuses.
+// Required of: accepted_run, with all variables open and no row.
+fn room_for_values(
+    entries: &[i32],
+    starts: &[u16],
+    first: &mut [u8],
+    status: &mut [u8],
+    log: &mut [u32],
+    limits: Limits,
+) -> Report
+    requires { ⌜ Formula (length (now status)) (now entries) (now starts) × (length (now first) ≡ length (now status)) × Cleared (now status) (now log) × Allowed limits ⌝ }
+    ensures { λ r. ⌜ RunDone (task (now (entries .entry)) (length (now (status .entry))) limits) r (now (status .exit)) (now (log .exit)) × (now (first .exit) ≡ valuesAfter (firstCall (task (now (entries .entry)) (length (now (status .entry))) limits)) (now (first .entry))) ⌝ }
+{
+    let n = status.len();
+    let mut values = [0u8; 256];
+    all_calls(
+        entries,
+        starts,
+        &mut values[..n],
+        first,
+        status,
+        log,
+        limits,
+    )
+}
+
+// The run of a list that no rule refuses: every variable open, no row, and where the clauses start, once for all calls. The first
+// model, if there is one, stands in `first` afterwards.
 // Rules out: statuses of an older run; rows of one.
 // Required of: run, after 10, 1, 11 and 12.
 pub fn accepted_run(
     entries: &[i32],
+    first: &mut [u8],
     status: &mut [u8],
     log: &mut [u32],
-    budget: u32,
-    limit: u32,
-) -> rules::Report
-    requires { ⌜ Listing (now entries) limit (now status) (now log) ⌝ }
-    ensures { λ r. ⌜ RunDone (task (now (entries .entry)) (length (now (status .entry))) budget limit) r (now (status .exit)) (now (log .exit)) ⌝ }
+    limits: Limits,
+) -> Report
+    requires { ⌜ Formula (length (now status)) (now entries) (startsOf (now entries)) × (length (clauses (now entries)) ≤ maxClauses) × (length (now first) ≡ length (now status)) × (length (now log) ≡ logLength (length (now status))) × Allowed limits ⌝ }
+    ensures { λ r. ⌜ RunDone (task (now (entries .entry)) (length (now (status .entry))) limits) r (now (status .exit)) (now (log .exit)) × (now (first .exit) ≡ valuesAfter (firstCall (task (now (entries .entry)) (length (now (status .entry))) limits)) (now (first .entry))) ⌝ }
 {
-    steps::buffer::clear_bytes(status);
-    steps::buffer::clear_numbers(log);
+    clear_bytes(status);
+    clear_numbers(log);
     let mut starts = [0u16; 1025];
-    let count = formula::starts::find_starts(entries, &mut starts);
-    room_for_models(
-        entries,
-        &starts[..count + 1],
-        count as u32,
-        status,
-        log,
-        budget,
-        limit,
-    )
+    let count = find_starts(entries, &mut starts);
+    room_for_values(entries, &starts[..count + 1], first, status, log, limits)
 }

@@ -27,12 +27,16 @@ pub fn run(
         },
         refusals::Refusal::Accepted => {
             let n = vars as usize;
+            let mut first = [0u8; 256];
             first::accepted_run(
                 entries,
+                &mut first[..n],
                 &mut status[..n],
                 &mut log[..6 * (n + 1)],
-                budget,
-                chunk_limit,
+                calls::next::Limits {
+                    budget: budget,
+                    chunk: chunk_limit,
+                },
             )
         }
     }

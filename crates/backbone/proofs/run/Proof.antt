@@ -1,11 +1,13 @@
 -- `run` meets its contract: what is refused writes nothing; what is accepted writes the fronts of both buffers. Assumes nothing.
 use mathlib.Core.Path.{_≡_, sym, _∙_}
+use native.Mathlib.Omega.{arith}
 use borrow.Author.Needs.{needs}
 use Rattle.rules.specs.Answer.{Given, given, refusalOf}
-use Rattle.refusals.specs.declared.Refusal.the-variants.{Accepted}
+use Rattle.rules.specs.RunRefusals.{Accepted}
+use Rattle.refusals.specs.declared.Refusal.the-variants.{Accepted as NotRefused}
 use Rattle.refusals.specs.Refuse.{found}
 use Rattle.backbone.proofs.ListingLaws.{front-len}
-use Rattle.backbone.proofs.RunLaws.{accepted, listing, runs-refused, runs-accepted}
+use Rattle.backbone.proofs.RunLaws.{accepted, is-formula, clauses-most, log-len, allowed, runs-refused, runs-accepted}
 use Rattle.backbone.proofs.run.Statement.{statement}
 use Rattle.backbone.proofs.run.Tie as tie
 
@@ -18,21 +20,33 @@ enum-known-refusal c = search needs
 enum-told : tie.Need-enum-told
 enum-told c = search needs
 
--- what the run is given, and that it was not refused
+-- ---- what the run is given, and that it was not refused
+
 abbrev the-given : tie.Start → Given
 the-given s = given (s .args .entries .now) (s .args .vars) (s .args .budget) (s .args .«chunk-limit») (s .args .status .now) (s .args .log .now)
 
-said : (c : tie.After-enum-told) → Accepted ≡ found (refusalOf (the-given (c .before .before .before .before .before .before .before)))
-said c = sym (c .enum-told .given .1) ∙ c .before .before .refuse .ensures (c .before .before .before .before .before .before .before .args .budget)
+abbrev start : tie.After-enum-told → tie.Start
+start c = c .before .before .before .before .before .before .before
 
-open-run : (c : tie.After-enum-told) → Rattle.rules.specs.RunRefusals.Accepted (the-given (c .before .before .before .before .before .before .before))
-open-run c = accepted (the-given (c .before .before .before .before .before .before .before)) (said c)
+said : (c : tie.After-enum-told) → NotRefused ≡ found (refusalOf (the-given (start c)))
+said c = sym (c .enum-told .given .1) ∙ c .before .before .refuse .ensures (start c .args .budget)
 
-slice-relend-prefix-accepted-run : tie.Need-slice-relend-prefix-accepted-run
-slice-relend-prefix-accepted-run c = open-run c .listed .lent .status-fits
+open-run : (c : tie.After-enum-told) → Accepted (the-given (start c))
+open-run c = accepted (the-given (start c)) (said c)
+
+-- ---- the answers
+
+array-borrow-prefix-first : tie.Need-array-borrow-prefix-first
+array-borrow-prefix-first c = open-run c .listed .lent .in-limits .vars-fit
 
 slice-aggregate-accepted-run : tie.Need-slice-aggregate-accepted-run
-slice-aggregate-accepted-run c = front-len _ _ (open-run (c .before) .listed .lent .status-fits)
+slice-aggregate-accepted-run c = front-len _ _ (open-run (c .before) .listed .lent .in-limits .vars-fit)
+
+slice-relend-prefix-accepted-run : tie.Need-slice-relend-prefix-accepted-run
+slice-relend-prefix-accepted-run c = open-run (c .before) .listed .lent .status-fits
+
+slice-aggregate-accepted-run-2 : tie.Need-slice-aggregate-accepted-run-2
+slice-aggregate-accepted-run-2 c = front-len _ _ (open-run (c .before .before) .listed .lent .status-fits)
 
 add-accepted-run : tie.Need-add-accepted-run
 add-accepted-run c = search needs
@@ -41,13 +55,18 @@ mul-accepted-run : tie.Need-mul-accepted-run
 mul-accepted-run c = search needs
 
 slice-relend-prefix-accepted-run-2 : tie.Need-slice-relend-prefix-accepted-run-2
-slice-relend-prefix-accepted-run-2 c = open-run (c .before) .listed .lent .log-fits
+slice-relend-prefix-accepted-run-2 c = open-run (c .before .before) .listed .lent .log-fits
 
-slice-aggregate-accepted-run-2 : tie.Need-slice-aggregate-accepted-run-2
-slice-aggregate-accepted-run-2 c = front-len _ _ (open-run (c .before .before) .listed .lent .log-fits)
+slice-aggregate-accepted-run-3 : tie.Need-slice-aggregate-accepted-run-3
+slice-aggregate-accepted-run-3 c = front-len _ _ (open-run (c .before .before .before) .listed .lent .log-fits)
 
 accepted-run-requires : tie.Need-accepted-run-requires
-accepted-run-requires c κs = listing (the-given (c .before .before .before .before .before .before .before .before .before)) (said (c .before .before))
+accepted-run-requires c κs =
+    let told = c .before .before .before in
+    let g = the-given (start told) in
+    let lent = open-run told .listed .lent in
+    let same-len = sym (front-len _ _ (lent .in-limits .vars-fit)) ∙ front-len _ _ (lent .status-fits) in
+    (is-formula g (said told), clauses-most g (said told), same-len, log-len g (said told), allowed g (said told))
 
 same-length : tie.Need-same-length
 same-length c = search needs
@@ -58,7 +77,8 @@ same-length-2 c = search needs
 returns : tie.Need-returns
 returns c =
     let s = c .before .before .before .before .before .before .before .before in
-    runs-refused (the-given s) (_∙_ {c = found (refusalOf (the-given s))} (sym (c .before .refusal .given .1)) (c .before .before .before .refuse .ensures (s .args .budget)))
+    runs-refused (the-given s)
+    (_∙_ {c = found (refusalOf (the-given s))} (sym (c .before .refusal .given .1)) (c .before .before .before .refuse .ensures (s .args .budget)))
 
 same-length-3 : tie.Need-same-length-3
 same-length-3 c = search needs
@@ -68,9 +88,9 @@ same-length-4 c = search needs
 
 returns-2 : tie.Need-returns-2
 returns-2 c =
-    let ran = c .before .before .before .before in
-    let told = ran .before .before .before in
-    runs-accepted (the-given (told .before .before .before .before .before .before .before)) (said told) (ran .accepted-run .ensures)
+    let ran = c .before .before .before .before .before in
+    let told = ran .before .before .before .before in
+    runs-accepted (the-given (start told)) (said told) (ran .accepted-run .ensures .0)
 
 pub run-spec : {M : Type 1} → statement M
 run-spec =
@@ -79,12 +99,14 @@ run-spec =
     refuse-requires
     enum-known-refusal
     enum-told
-    slice-relend-prefix-accepted-run
+    array-borrow-prefix-first
     slice-aggregate-accepted-run
+    slice-relend-prefix-accepted-run
+    slice-aggregate-accepted-run-2
     add-accepted-run
     mul-accepted-run
     slice-relend-prefix-accepted-run-2
-    slice-aggregate-accepted-run-2
+    slice-aggregate-accepted-run-3
     accepted-run-requires
     same-length
     same-length-2

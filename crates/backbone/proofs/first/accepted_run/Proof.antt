@@ -1,11 +1,23 @@
 -- `first::accepted_run` meets its contract: what is cleared shows that nothing is known yet, and the starts are the list's.
 -- Assumes nothing.
-use mathlib.Core.Path.{refl}
 use native.Mathlib.Omega.{arith}
 use borrow.Author.Needs.{needs}
-use Rattle.backbone.proofs.ListingLaws.{clauses-most, listing-room, listing-formula, cleared, front-len}
+use Rattle.backbone.proofs.ListingLaws.{found-formula, cleared, front-len}
 use Rattle.backbone.proofs.first.accepted_run.Statement.{statement}
 use Rattle.backbone.proofs.first.accepted_run.Tie as tie
+
+-- ---- the places: where the function starts, and behind its calls
+
+abbrev start : tie.After-clear-bytes → tie.Start
+start c = c .before .before .before .before .before
+
+abbrev bytes : tie.After-clear-numbers → tie.After-clear-bytes
+bytes c = c .before .before .before .before
+
+abbrev numbers : tie.After-find-starts → tie.After-clear-numbers
+numbers c = c .before .before .before .before
+
+-- ---- the answers
 
 clear-bytes-requires : tie.Need-clear-bytes-requires
 clear-bytes-requires c κs = search needs
@@ -17,27 +29,32 @@ slice-aggregate-find-starts : tie.Need-slice-aggregate-find-starts
 slice-aggregate-find-starts c = search needs
 
 find-starts-requires : tie.Need-find-starts-requires
-find-starts-requires c κs = listing-room (c .before .before .before .before .before .before .before .before .before .before .before .pre) refl
+find-starts-requires c κs = search needs
 
 add-starts : tie.Need-add-starts
-add-starts c = omega (arith, c .before .find-starts .ensures .count-is, clauses-most (c .before .before .before .before .before .before .before .before .before .before .before .before .before .pre))
+add-starts c = search needs
 
 array-share-prefix-starts : tie.Need-array-share-prefix-starts
-array-share-prefix-starts c = omega (arith, c .before .find-starts .ensures .count-is, clauses-most (c .before .before .before .before .before .before .before .before .before .before .before .before .before .pre), c .before .find-starts .kept .1 .0)
+array-share-prefix-starts c = search needs
 
-slice-aggregate-room-for-models : tie.Need-slice-aggregate-room-for-models
-slice-aggregate-room-for-models c = front-len _ _ (omega (arith, c .before .before .find-starts .ensures .count-is, clauses-most (c .before .before .before .before .before .before .before .before .before .before .before .before .before .before .pre), c .before .before .find-starts .kept .1 .0))
+slice-aggregate-room-for-values : tie.Need-slice-aggregate-room-for-values
+slice-aggregate-room-for-values c =
+    let found = c .before .before in
+    let s = start (bytes (numbers found)) in
+    front-len _ _ (omega (arith, found .find-starts .ensures .count-is, s .pre .1, found .find-starts .kept .1 .0))
 
-cast-room-for-models : tie.Need-cast-room-for-models
-cast-room-for-models c = omega (arith, c .before .before .find-starts .ensures .count-is, clauses-most (c .before .before .before .before .before .before .before .before .before .before .before .before .before .before .pre))
-
-room-for-models-requires : tie.Need-room-for-models-requires
-room-for-models-requires c κs =
-    let found = c .before .before .before .before in
-    let bytes = c .before .before .before .before .before .before .before .before .before .before .before .before in
-    let numbers = c .before .before .before .before .before .before .before .before in
-    let s = c .before .before .before .before .before .before .before .before .before .before .before .before .before .before .before .before in
-    (rw (bytes .clear-bytes .kept .0) (listing-formula (s .pre) (found .find-starts .ensures)), cleared (s .pre) (bytes .clear-bytes .kept .0) (bytes .clear-bytes .ensures) (numbers .clear-numbers .ensures), s .pre .limit-some, s .pre .limit-fits)
+room-for-values-requires : tie.Need-room-for-values-requires
+room-for-values-requires c κs =
+    let found = c .before .before .before .before .before in
+    let numbers = numbers found in
+    let bytes = bytes numbers in
+    let s = start bytes in
+    let len = bytes .clear-bytes .kept .0 in (
+      rw len (found-formula (s .pre .0) (found .find-starts .ensures)),
+      rw len (s .pre .2),
+      cleared (s .args .status .now) (s .args .log .now) (s .pre .3) len (bytes .clear-bytes .ensures) (numbers .clear-numbers .ensures),
+      s .pre .4,
+    )
 
 same-length : tie.Need-same-length
 same-length c = search needs
@@ -45,10 +62,14 @@ same-length c = search needs
 same-length-2 : tie.Need-same-length-2
 same-length-2 c = search needs
 
+same-length-3 : tie.Need-same-length-3
+same-length-3 c = search needs
+
 returns : tie.Need-returns
 returns c =
-    let ran = c .before .before .before .before in
-    rw (ran .before .before .before .before .before .before .before .before .before .before .before .before .before .clear-bytes .kept .0) at (ran .room-for-models .ensures)
+    let ran = c .before .before .before .before .before .before in
+    let bytes = bytes (numbers (ran .before .before .before .before .before .before)) in
+    rw (bytes .clear-bytes .kept .0) at (ran .room-for-values .ensures)
 
 pub accepted-run-spec : {M : Type 1} → statement M
 accepted-run-spec =
@@ -60,9 +81,9 @@ accepted-run-spec =
     find-starts-requires
     add-starts
     array-share-prefix-starts
-    slice-aggregate-room-for-models
-    cast-room-for-models
-    room-for-models-requires
+    slice-aggregate-room-for-values
+    room-for-values-requires
     same-length
     same-length-2
+    same-length-3
     returns)

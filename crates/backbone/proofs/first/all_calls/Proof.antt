@@ -1,0 +1,107 @@
+-- `first::all_calls` meets its contract: the run, by what its first call ended with. Assumes nothing.
+use mathlib.Core.Path.{_≡_, refl, sym, _∙_, ap}
+use borrow.Author.Needs.{needs}
+use lib.ListN.{length}
+use Rattle.rules.specs.Search.{Call}
+use Rattle.rules.specs.Run.{Task, blank, firstCall}
+use Rattle.search.specs.Calls.{CallEnds, valuesAfter}
+use Rattle.search.proofs.CallLaws.{not-model}
+use Rattle.calls.specs.Next.{task}
+use Rattle.calls.proofs.CallLaws.{ends-model}
+use Rattle.backbone.proofs.FirstLaws.{row-begun, first-called, done-by-row}
+use Rattle.backbone.proofs.first.all_calls.Statement.{statement}
+use Rattle.backbone.proofs.first.all_calls.Tie as tie
+
+-- ---- the places: where the function starts, and behind its first call
+
+abbrev start : tie.After-first-call → tie.Start
+start c = c .before .before .before .before .before .before .before
+
+abbrev called : tie.After-meter → tie.After-first-call
+called c = c .before .before .before
+
+abbrev the-task : tie.Start → Task
+the-task s = task (s .args .entries .now) (length (s .args .status .now)) (s .args .limits)
+
+-- ---- the answers
+
+first-call-requires : tie.Need-first-call-requires
+first-call-requires c κs = let s = c .before .before .before .before .before .before in rw (s .pre .1) (s .pre .0)
+
+-- the first call is the run's
+ended : (c : tie.After-first-call)
+    → CallEnds (firstCall (the-task (start c))) (blank (length (start c .args .values .now))) (start c .args .limits .budget) (c .first-call .result) (c .first-call .last .1 .1 .0)
+ended c = let s = start c in first-called (s .args .entries .now) (s .args .limits) (s .pre .1) (c .first-call .ensures)
+
+enum-told : tie.Need-enum-told
+enum-told c = search needs
+
+settle-requires : tie.Need-settle-requires
+settle-requires c κs =
+    let told = c .before .before .before .before in
+    let call = called (told .before .before) in
+    let p = start call .pre in
+    (p .0, call .first-call .kept .1 .1 .0 ∙ p .1, p .2, p .3, p .4, ends-model (ended call) (told .enum-told .given .1))
+
+same-length : tie.Need-same-length
+same-length c = search needs
+
+same-length-2 : tie.Need-same-length-2
+same-length-2 c = search needs
+
+same-length-3 : tie.Need-same-length-3
+same-length-3 c = search needs
+
+same-length-4 : tie.Need-same-length-4
+same-length-4 c = search needs
+
+returns : tie.Need-returns
+returns c =
+    let told = c .before .before .before .before .before .before .before .before .before .before .before .before .before in
+    let call = called (told .before .before) in
+    let s = start call in
+    let found = c .before .before .before .before .before .before .before .before .settle .ensures in
+    (found .0, found .1 ∙ ap (λ (d : Call). valuesAfter d (s .args .first .now)) (sym (ends-model (ended call) (told .enum-told .given .1))))
+
+cast-started : tie.Need-cast-started
+cast-started c = search needs
+
+started-requires : tie.Need-started-requires
+started-requires c κs = search needs
+
+row-only-requires : tie.Need-row-only-requires
+row-only-requires c κs =
+    let s = start (called (c .before .before .before)) in
+    row-begun (s .pre .3) _ (c .started .ensures) _
+
+same-length-5 : tie.Need-same-length-5
+same-length-5 c = search needs
+
+same-length-6 : tie.Need-same-length-6
+same-length-6 c = search needs
+
+returns-2 : tie.Need-returns-2
+returns-2 c =
+    let call = called (c .before .before .before .before .before .before) in
+    let s = start call in
+    done-by-row (the-task s) _ (s .pre .3) (c .before .before .before .started .ensures) refl refl (ended call)
+    (not-model (call .first-call .result .outcome) (c .before .before .before .before .before .match .keys2)) (c .before .before .row-only .ensures)
+
+pub all-calls-spec : {M : Type 1} → statement M
+all-calls-spec =
+    tie.close
+    (tie.spec
+    first-call-requires
+    enum-told
+    settle-requires
+    same-length
+    same-length-2
+    same-length-3
+    same-length-4
+    returns
+    cast-started
+    started-requires
+    row-only-requires
+    same-length-5
+    same-length-6
+    returns-2)

@@ -1,0 +1,114 @@
+-- `first::settle` meets its contract: the run is where its first call has brought it, and the other calls follow from there.
+-- Assumes nothing.
+use mathlib.Core.Path.{_≡_, refl, sym, _∙_, ap}
+use borrow.Author.Needs.{needs}
+use lib.ListN.{length}
+use Rattle.rules.specs.Meaning.{Values}
+use Rattle.rules.specs.Run.{Task, begun, afterModel}
+use Rattle.calls.specs.After.{Shows}
+use Rattle.calls.specs.Next.{At, task}
+use Rattle.calls.proofs.AfterLaws.{shows-model}
+use Rattle.backbone.proofs.FirstLaws.{copied-whole, shows-begun, room-begun, ready-begun, first-at, done-from-model}
+use Rattle.backbone.proofs.first.settle.Statement.{statement}
+use Rattle.backbone.proofs.first.settle.Tie as tie
+
+-- ---- the places: where the function starts, behind the copy, and behind the first model's filter
+
+abbrev start : tie.After-copy-first → tie.Start
+start c = c .before .before .before .before .before .before .before .before
+
+abbrev copied : tie.After-started → tie.After-copy-first
+copied c = c .before .before .before
+
+abbrev begins : tie.After-after-model → tie.After-started
+begins c = c .before .before .before .before .before
+
+-- the task, and the first model
+abbrev the-task : tie.Start → Task
+the-task s = task (s .args .entries .now) (length (s .args .status .now)) (s .args .limits)
+
+abbrev the-model : tie.Start → Values
+the-model s = s .args .values .now
+
+-- ---- the answers
+
+copy-first-requires : tie.Need-copy-first-requires
+copy-first-requires c κs = search needs
+
+-- the first model is kept as it is
+kept-model : (c : tie.After-copy-first) → c .copy-first .last .1 .0 ≡ the-model (start c)
+kept-model c =
+    let s = start c in
+    copied-whole (s .args .values .now) (s .args .first .now) (s .pre .2 ∙ sym (s .pre .1)) (c .copy-first .ensures)
+
+cast-started : tie.Need-cast-started
+cast-started c = search needs
+
+started-requires : tie.Need-started-requires
+started-requires c κs = search needs
+
+after-model-requires : tie.Need-after-model-requires
+after-model-requires c κs =
+    let st = c .before .before .before .before in
+    let co = copied st in
+    let s = start co in
+    let ready = ready-begun (s .pre .3) _ (st .started .ensures) (ap length (kept-model co) ∙ s .pre .1) (s .pre .1) (s .pre .0 .vars-fit) _ in
+    (rw (s .pre .1) (s .pre .0), ready, s .pre .1)
+
+-- where the run is after the first model
+there : (c : tie.After-after-model) → let s = start (copied (begins c)) in
+    (c .after-model .result .size ≡ 1)
+    × Shows (length (s .args .status .now)) (afterModel (the-task s) (begun (the-task s) (the-model s)) 0 (the-model s) (s .args .spent))
+    (c .after-model .result) (copied (begins c) .copy-first .last .1 .0) (c .after-model .last .1 .1 .1 .1 .0) (c .after-model .last .1 .1 .1 .1 .1 .0)
+there c =
+    let st = begins c in
+    let co = copied st in
+    let s = start co in
+    let k = the-task s in
+    let m = the-model s in
+    shows-model k (begun k m) _ (shows-begun (s .pre .3) k m _ (st .started .ensures) refl (kept-model co) (s .pre .1)) (room-begun (s .pre .3) _ (st .started .ensures)) refl (c .after-model .ensures)
+
+run-calls-requires : tie.Need-run-calls-requires
+run-calls-requires c κs =
+    let am = c .before .before .before .before .before .before .before .before .before .before in
+    let s = start (copied (begins am)) in
+    let kept = am .after-model .kept in
+    rw (kept .1 .1 .1 .1 .0) (s .pre .0, kept .1 .1 .1 .0 ∙ s .pre .1, s .pre .4, first-at (the-task s) (the-model s) (s .args .spent) (s .pre .5) (there am))
+
+same-length : tie.Need-same-length
+same-length c = search needs
+
+same-length-2 : tie.Need-same-length-2
+same-length-2 c = c .before .before .before .before .before .before .before .before .before .before .before .before .before .before .before .before .before .before .before .before .before .before .before .before .before .copy-first .kept .1 .0
+
+same-length-3 : tie.Need-same-length-3
+same-length-3 c = search needs
+
+same-length-4 : tie.Need-same-length-4
+same-length-4 c = search needs
+
+returns : tie.Need-returns
+returns c =
+    let ran = c .before .before .before .before .before .before in
+    let am = ran .before .before .before .before .before .before .before .before .before .before .before in
+    let s = start (copied (begins am)) in
+    let k = the-task s in
+    let ends = rw (am .after-model .kept .1 .1 .1 .1 .0) at (ran .run-calls .ensures) in (
+      done-from-model k (the-model s) (s .args .spent) (s .pre .5) (there am .0) (ends (first-at k (the-model s) (s .args .spent) (s .pre .5) (there am))),
+      kept-model (copied (begins am)),
+    )
+
+pub settle-spec : {M : Type 1} → statement M
+settle-spec =
+    tie.close
+    (tie.spec
+    copy-first-requires
+    cast-started
+    started-requires
+    after-model-requires
+    run-calls-requires
+    same-length
+    same-length-2
+    same-length-3
+    same-length-4
+    returns)
