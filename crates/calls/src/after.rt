@@ -151,9 +151,10 @@ pub fn row_only(log: &mut [u32], t: Tally, outcome: Outcome, made: Made) -> Repo
             spent: made.spent,
         },
     );
+    let calls = t.calls + 1;
     Report {
         answer: answer_of(outcome),
-        calls: t.calls + 1,
+        calls: calls,
         tries: made.spent,
         forced: t.forced,
         free: t.free,

@@ -20,7 +20,7 @@ fn forced_value(status: u8) -> u8
 
 // The literals forced so far, as values.
 // Rules out: a free variable set; a forced one unset.
-// Required of: chunks::calls::chunk_call, which requires it too.
+// Required of: calls::next::chunk_call, which requires it too.
 pub fn fill_start(status: &[u8], values: &mut [u8])
     requires { ⌜ length (now status) ≡ length (now values) ⌝ }
     ensures { λ _. ⌜ now (values .exit) ≡ forcedValues (now (status .entry)) ⌝ }
@@ -56,7 +56,7 @@ fn force_if(first: &[u8], status: &mut [u8], i: usize, left: u32) -> u32
 
 // Forces the lowest open variables, as many as the chunk has, to their values in the first model.
 // Rules out: one variable more; the opposite value.
-// Required of: chunks::step::after_none, by StepReady.
+// Required of: calls::after::after_none, by TallyReady.
 pub fn force_first(first: &[u8], status: &mut [u8], chunk: u32)
     requires { ⌜ length (now first) ≡ length (now status) ⌝ }
     ensures { λ _. ⌜ now (status .exit) ≡ forceFirst (now (first .entry)) (now (status .entry)) chunk ⌝ }

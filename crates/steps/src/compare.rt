@@ -23,7 +23,7 @@ pub fn drop_if(status: &mut [u8], i: usize, passes: bool) -> u32
 
 // Drops each candidate whose variable the model gives another value than the first model, and answers how many.
 // Rules out: a forced variable freed; a candidate dropped where both models agree.
-// Required of: chunks::step::after_model, by StepReady.
+// Required of: calls::after::after_model, by TallyReady.
 pub fn compare(first: &[u8], model: &[u8], status: &mut [u8]) -> u32
     requires { ⌜ (length (now first) ≡ length (now status)) × (length (now model) ≡ length (now status)) × (length (now status) ≤ 256) ⌝ }
     ensures { λ r. ⌜ Drops (differs (now (first .entry)) (now (model .entry))) (now (status .entry)) r (now (status .exit)) ⌝ }

@@ -37,7 +37,7 @@ fn put_if(first: &[u8], status: &[u8], i: usize, chunk: usize, out: &mut [i32], 
 
 // Puts the lowest candidates, negated, as many as the chunk has.
 // Rules out: the candidates themselves; a candidate left out.
-// Required of: chunks::calls::chunk_call, with room for 256 and a chunk of open variables.
+// Required of: calls::next::chunk_call, with room for 256 and a chunk of open variables.
 pub fn put_constraint(first: &[u8], status: &[u8], chunk: usize, out: &mut [i32])
     requires { ⌜ (length (now first) ≡ length (now status)) × (length (now status) ≤ 256) × (chunk ≤ length (now out)) × (chunk ≤ opens (now status)) ⌝ }
     ensures { λ _. ⌜ ConstraintPut (now (first .entry)) (now (status .entry)) chunk (now (out .entry)) (now (out .exit)) ⌝ }

@@ -67,7 +67,7 @@ fn flip_at(entries: &[i32], starts: &[u16], model: &mut [u8], status: &mut [u8],
 
 // Drops each remaining candidate whose variable can be flipped, one by one, and answers how many.
 // Rules out: two flips judged at once; a flip that is kept.
-// Required of: chunks::step::after_model, which requires it too.
+// Required of: calls::after::after_model, which requires it too.
 pub fn flip(entries: &[i32], starts: &[u16], model: &mut [u8], status: &mut [u8]) -> u32
     requires { ⌜ Formula (length (now model)) (now entries) (now starts) × (length (now model) ≡ length (now status)) ⌝ }
     ensures { λ r. ⌜ Flips (clauses (now (entries .entry))) (now (model .entry)) (now (status .entry)) r (now (model .exit)) (now (status .exit)) ⌝ }

@@ -17,7 +17,7 @@ pub struct Row {
 
 // Writes the row of a call behind those of the calls before it, which had spent so many tries.
 // Rules out: a row further down; two columns exchanged.
-// Required of: after_model, after_none and after_stop of chunks::step, which require it too; backbone::first::one_row, for row 1.
+// Required of: after_model, after_none and row_only of calls::after, which require it too.
 pub fn put_row(log: &mut [u32], calls: u32, tries: u32, row: Row)
     requires { ⌜ (6 * (calls + 1) ≤ length (now log)) × (tries ≤ row .spent) × (calls ≤ 256) ⌝ }
     ensures { λ _. ⌜ now (log .exit) ≡ sets (now (log .entry)) (6 * calls) ((calls + 1) ∷ outcomeNumber (row .outcome) ∷ row .chunk ∷ row .«by_compare» ∷ row .«by_flip» ∷ (row .spent - tries) ∷ []) ⌝ }
