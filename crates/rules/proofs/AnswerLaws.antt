@@ -5,6 +5,8 @@
 --   limits-sound, limits-complete, limits-false, limits-of     the test of 10, both ways
 --   room-sound, room-complete, room-false, room-of     the test of 1, both ways
 --   list-false                    a list that no case of 11 refuses
+--   list-long-first, not-ended-first, zero-over-first, above-first, list-first     the first rule that refuses a list, or none
+--   refusal-lent                  where 10 and 1 are not to be given, the refusal is the list's
 --
 -- Assumes nothing.
 use mathlib.Core.Path.{_≡_, refl, sym, _∙_, ap}
@@ -19,11 +21,11 @@ use lib.Dec.{eqb, leb, ltb}
 use lib.ListN.{length}
 use borrow.Author.Tests.{eqb-true, eqb-false, eq-eqb, ne-eqb, ltb-true, ltb-false, lt-ltb, le-ltb, not-true, not-false}
 use Rattle.rules.specs.declared.RunAnswer.{RunAnswer}
-use Rattle.rules.specs.Lists.{In, any, count, countIf, indexIf, nthIndex, orNext, eqz}
+use Rattle.rules.specs.Lists.{any, count, countIf, indexIf, nthIndex, firstOf}
 use Rattle.rules.specs.Numbers.{maxVars, maxClauses, maxEntries, maxChunk}
 use Rattle.rules.specs.Meaning.{varOf}
 use Rattle.rules.specs.Reading.{isZero}
-use Rattle.rules.specs.Answer.{Given, logLength, isEnded, isAbove, refusalOf}
+use Rattle.rules.specs.Answer.{Given, logLength, isEnded, isAbove, listRules, refusalOf}
 use Rattle.rules.specs.RunRefusals.{InLimits, Lent, Listed, Accepted, RunRefuses, bad-limits, short-buffer, list-long, not-ended, zero-over, entry-over-vars}
 use Rattle.rules.proofs.ListLaws.{both, never, any-sound, any-complete, none-of-any, any-of-none, eqz-sound}
 
@@ -152,3 +154,30 @@ module _ (g : Given) where
 
   pub list-false : Lent g → ltb maxEntries (length (g .entries)) ≡ false → isEnded (g .entries) ≡ true → ltb maxClauses (count isZero (g .entries)) ≡ false → Listed g
   list-false w a b c = record { lent = w; entries-fit = ltb-false _ _ a; ended = b; clauses-fit = ltb-false _ _ c }
+
+  pub refusal-lent : Lent g → refusalOf g ≡ firstOf (listRules (g .entries) (g .vars))
+  unfolding refusalOf
+  refusal-lent w = rw (limits-of (w .in-limits), room-of w)
+
+-- ---- the list's rules: the first that refuses it
+
+module _ (es : List ℤ) (vars : ℕ) where
+  pub list-long-first : maxEntries < length es → firstOf (listRules es vars) ≡ some (RunAnswer.BadList maxEntries)
+  list-long-first h = rw (lt-ltb maxEntries (length es) h)
+
+  module _ (short : length es ≤ maxEntries) where
+    pub not-ended-first : isEnded es ≡ false → firstOf (listRules es vars) ≡ some (RunAnswer.BadList (length es))
+    not-ended-first e = rw (le-ltb maxEntries (length es) short, e)
+
+    module _ (ended : isEnded es ≡ true) where
+      pub zero-over-first : maxClauses < count isZero es
+          → firstOf (listRules es vars) ≡ some (RunAnswer.BadList (nthIndex isZero es maxClauses))
+      zero-over-first h = rw (le-ltb maxEntries (length es) short, ended, lt-ltb maxClauses (count isZero es) h)
+
+      module _ (few : count isZero es ≤ maxClauses) where
+        pub above-first : any (isAbove vars) es ≡ true
+            → firstOf (listRules es vars) ≡ some (RunAnswer.EntryOverVars (nthIndex (isAbove vars) es 0))
+        above-first e = rw (le-ltb maxEntries (length es) short, ended, le-ltb maxClauses (count isZero es) few, e)
+
+        pub list-first : any (isAbove vars) es ≡ false → firstOf (listRules es vars) ≡ none
+        list-first e = rw (le-ltb maxEntries (length es) short, ended, le-ltb maxClauses (count isZero es) few, e)

@@ -10,7 +10,7 @@
 --   keep-sound, keep-complete     the kept are the elements that pass
 --   any-append, all-append, all-append-of, keep-append, count-append, sumOf-append     over `++`
 --   any-cong, all-cong, keep-cong, count-cong, sumOf-cong     functions that agree on the elements
---   length-keep, count-le, count-pos, count-split, count-zero, count-of-none     how many pass
+--   length-keep, count-le, count-pos, count-split, count-zero, count-of-none, any-of-count     how many pass
 --   in-getD, getD-in, getD-default     elements and indices; inside a list the default does not matter
 --   in-map, map-in, in-take       elements of map and take
 --   eqz-sound, eqz-refl, eqz-complete, eqz-other     two whole numbers are the same
@@ -228,6 +228,13 @@ module _ {A : Type 0} where
   count-of-none p [] h = refl
   count-of-none p (x ∷ xs) h =
       rw (h x (List·Memᴰ·head refl)) (count-of-none p xs (λ y i. h y (List·Memᴰ·tail i)))
+
+  pub any-of-count : (p : A → Bool) (xs : List A) → 1 ≤ count p xs → any p xs ≡ true
+  any-of-count p xs h = go (both (any p xs))
+    where
+      go : (any p xs ≡ true) ⊎ (any p xs ≡ false) → any p xs ≡ true
+      go (inl e) = e
+      go (inr e) = absurd (omega (arith, count-of-none p xs (λ x i. none-of-any p e i)))
 
   -- ---- elements and indices
 

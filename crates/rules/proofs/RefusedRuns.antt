@@ -23,7 +23,8 @@ use Rattle.rules.specs.Reading.{isZero}
 use Rattle.rules.specs.Answer.{Given, logLength, isEnded, isAbove, refusalOf}
 use Rattle.rules.specs.RunRefusals.{InLimits, Lent, Listed, Accepted, RunRefuses, bad-limits, short-buffer, list-long, not-ended, zero-over, entry-over-vars}
 use Rattle.rules.proofs.ListLaws.{both, never, any-sound, any-complete, none-of-any, any-of-none, count-append, count-pos, count-zero, count-of-none, eqz-sound}
-use Rattle.rules.proofs.AnswerLaws.{Nth, nthIndex-at, nthIndex-split, isEnded-snoc, isEnded-last, limits-test, room-test, limits-sound, limits-complete, limits-false, limits-of, room-sound, room-complete, room-false, room-of, list-false}
+use Rattle.rules.proofs.AnswerLaws.{Nth, nthIndex-at, nthIndex-split, isEnded-snoc, isEnded-last, limits-test, room-test, limits-sound, limits-complete, limits-false, limits-of, room-sound, room-complete, room-false, list-false}
+use Rattle.rules.proofs.AnswerLaws.{refusal-lent, list-long-first, not-ended-first, zero-over-first, above-first, list-first}
 
 -- what a refusal, or none, says
 abbrev Judges : Given → Option RunAnswer → Type 0
@@ -74,18 +75,15 @@ module _ (g : Given) where
 -- ---- and back: a rule that holds decides every test before its own
 
 module _ (g : Given) where
-  lent-tests : (rest : Option RunAnswer) → Lent g → orNext (limits-test g) RunAnswer.BadLimits (orNext (room-test g) RunAnswer.ShortBuffer rest) ≡ rest
-  lent-tests rest w = rw (limits-of g (w .in-limits), room-of g w)
-
   refused-complete : (a : RunAnswer) → RunRefuses g a → refusalOf g ≡ some a
   unfolding refusalOf
   refused-complete _ (bad-limits h) = rw (limits-complete g h)
   refused-complete _ (short-buffer w h) = rw (limits-of g w, room-complete g h)
-  refused-complete _ (list-long w h) = lent-tests _ w ∙ rw (lt-ltb maxEntries (length (g .entries)) h)
+  refused-complete _ (list-long w h) = refusal-lent g w ∙ list-long-first (g .entries) (g .vars) h
   refused-complete _ (not-ended w s front l q z) =
-      lent-tests _ w ∙ rw (le-ltb maxEntries (length (g .entries)) s, ap isEnded q ∙ isEnded-snoc front l ∙ z)
+      refusal-lent g w ∙ not-ended-first (g .entries) (g .vars) s (ap isEnded q ∙ isEnded-snoc front l ∙ z)
   refused-complete _ (zero-over w s d front back q c) =
-      lent-tests _ w ∙ rw (le-ltb maxEntries (length (g .entries)) s, d, lt-ltb maxClauses (count isZero (g .entries)) over, at)
+      refusal-lent g w ∙ zero-over-first (g .entries) (g .vars) s d over ∙ ap (λ (i : ℕ). some (RunAnswer.BadList i)) at
     where
       over : maxClauses < count isZero (g .entries)
       over = rw q (omega (arith, count-append isZero front (pos 0 ∷ back)))
@@ -93,8 +91,9 @@ module _ (g : Given) where
       at : nthIndex isZero (g .entries) maxClauses ≡ length front
       at = rw q (ap (nthIndex isZero (front ++ pos 0 ∷ back)) (sym c) ∙ nthIndex-at isZero front (pos 0) back refl)
   refused-complete _ (entry-over-vars w front l back q k h) =
-      lent-tests _ (w .lent) ∙
-      rw (le-ltb maxEntries (length (g .entries)) (w .entries-fit), w .ended, le-ltb maxClauses (count isZero (g .entries)) (w .clauses-fit), some-above, at)
+      refusal-lent g (w .lent) ∙
+      above-first (g .entries) (g .vars) (w .entries-fit) (w .ended) (w .clauses-fit) some-above ∙
+      ap (λ (i : ℕ). some (RunAnswer.EntryOverVars i)) at
     where
       none-before : count (isAbove (g .vars)) front ≡ 0
       none-before = count-of-none (isAbove (g .vars)) front (λ e i. le-ltb (g .vars) (varOf e) (k e i))
@@ -103,7 +102,10 @@ module _ (g : Given) where
       some-above = rw q (any-complete (isAbove (g .vars)) (Memᴰ·append-right front (List·Memᴰ·head refl)) (lt-ltb (g .vars) (varOf l) h))
 
       at : nthIndex (isAbove (g .vars)) (g .entries) 0 ≡ length front
-      at = rw q (ap (nthIndex (isAbove (g .vars)) (front ++ l ∷ back)) (sym none-before) ∙ nthIndex-at (isAbove (g .vars)) front l back (lt-ltb (g .vars) (varOf l) h))
+      at =
+          rw q
+          (ap (nthIndex (isAbove (g .vars)) (front ++ l ∷ back)) (sym none-before) ∙
+          nthIndex-at (isAbove (g .vars)) front l back (lt-ltb (g .vars) (varOf l) h))
 
 -- ---- each number exactly when its rule says
 
@@ -118,12 +120,11 @@ run-refused g a = (λ e. go (refusalOf g) (judged g) e, refused-complete g a)
     go (some b) w e = rw (some-inj e) at w
 
 accepted-complete : (g : Given) → Accepted g → refusalOf g ≡ none
-unfolding refusalOf
 accepted-complete g w =
     let l = w .listed in
-    let above : any (isAbove (g .vars)) (g .entries) ≡ false = any-of-none (isAbove (g .vars)) (g .entries) (λ e i. le-ltb (g .vars) (varOf e) (w .up-to e i)) in
-    lent-tests g _ (l .lent) ∙
-    rw (le-ltb maxEntries (length (g .entries)) (l .entries-fit), l .ended, le-ltb maxClauses (count isZero (g .entries)) (l .clauses-fit), above)
+    refusal-lent g (l .lent) ∙
+    list-first (g .entries) (g .vars) (l .entries-fit) (l .ended) (l .clauses-fit)
+    (any-of-none (isAbove (g .vars)) (g .entries) (λ e i. le-ltb (g .vars) (varOf e) (w .up-to e i)))
 
 pub run-accepted : (g : Given) → (refusalOf g ≡ none) ↔ Accepted g
 run-accepted g = (λ e. go (refusalOf g) (judged g) e, accepted-complete g)
