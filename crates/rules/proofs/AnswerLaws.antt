@@ -9,25 +9,24 @@
 --   refusal-lent                  where 10 and 1 are not to be given, the refusal is the list's
 --
 -- Assumes nothing.
-use mathlib.Core.Path.{_≡_, refl, sym, _∙_, ap}
+use mathlib.Core.Path.{_≡_, refl, ap}
 use mathlib.Core.Logic.{_≢_, _⊎_, inl, inr}
-use mathlib.Core.Bool.{Bool, true, false, not, _||_, or-true}
-use mathlib.Core.List.{List, [], _∷_, _++_, List·Memᴰ·head, List·Memᴰ·tail, List·Memᴰ·not-nil, Memᴰ·append-right}
-use mathlib.Core.Option.{Option, none, some}
-use Prim.Native.Nat.{ℕ, zero, suc, _+_, _≤_, _<_}
+use mathlib.Core.Bool.{Bool, true, false, _||_, or-true}
+use mathlib.Core.List.{List, [], _∷_, _++_}
+use mathlib.Core.Option.{none, some}
+use Prim.Native.Nat.{ℕ, zero, suc, _≤_, _<_}
 use native.Mathlib.Omega.{arith}
-use lib.IntN.{ℤ, pos, negsuc}
-use lib.Dec.{eqb, leb, ltb}
+use lib.IntN.{ℤ}
+use lib.Dec.{eqb, ltb}
 use lib.ListN.{length}
-use borrow.Author.Tests.{eqb-true, eqb-false, eq-eqb, ne-eqb, ltb-true, ltb-false, lt-ltb, le-ltb, not-true, not-false}
+use borrow.Author.Tests.{eqb-true, eqb-false, eq-eqb, ne-eqb, ltb-true, ltb-false, lt-ltb, le-ltb}
 use Rattle.rules.specs.declared.RunAnswer.{RunAnswer}
 use Rattle.rules.specs.Lists.{any, count, countIf, indexIf, nthIndex, firstOf}
 use Rattle.rules.specs.Numbers.{maxVars, maxClauses, maxEntries, maxChunk}
-use Rattle.rules.specs.Meaning.{varOf}
 use Rattle.rules.specs.Reading.{isZero}
 use Rattle.rules.specs.Answer.{Given, logLength, isEnded, isAbove, listRules, refusalOf}
-use Rattle.rules.specs.RunRefusals.{InLimits, Lent, Listed, Accepted, RunRefuses, bad-limits, short-buffer, list-long, not-ended, zero-over, entry-over-vars}
-use Rattle.rules.proofs.ListLaws.{both, never, any-sound, any-complete, none-of-any, any-of-none, eqz-sound}
+use Rattle.rules.specs.RunRefusals.{InLimits, Lent, Listed}
+use Rattle.rules.proofs.ListLaws.{never}
 
 -- ---- the element that passes and has n passing elements before it
 

@@ -7,21 +7,18 @@
 --   stopped-spent     a run is stopped only if the budget is spent
 --
 -- Assumes nothing.
-use mathlib.Core.Path.{_≡_, refl, sym, _∙_, ap}
-use mathlib.Core.Logic.{_≢_, _⊎_, inl, inr}
-use mathlib.Core.List.{List, [], _∷_, _++_}
-use Prim.Native.Nat.{ℕ, zero, suc, _+_, _≤_, _<_, min}
+use mathlib.Core.Path.{_≡_, refl, sym}
+use mathlib.Core.List.{[], _∷_}
+use Prim.Native.Nat.{ℕ, _+_, _≤_}
 use native.Mathlib.Omega.{arith}
 use lib.ListN.{length, replicate, length-append}
 use Rattle.rules.specs.declared.Outcome.{Outcome}
 use Rattle.rules.specs.declared.RunAnswer.{RunAnswer}
 use Rattle.rules.specs.Lists.{count}
-use Rattle.rules.specs.Search.{Call, model, no-model, stopped}
-use Rattle.rules.specs.Run.{Task, Row, Progress, statusAt, opens, rowAfter, afterNone, afterStop, Ended, begun, firstCall, chunkCall, run}
+use Rattle.rules.specs.Run.{Task, rowAfter, Ended, begun, run}
 use Rattle.rules.specs.Answer.{isFree, isForced}
 use Rattle.rules.specs.Log.{LogOf}
-use Rattle.rules.proofs.SearchLaws.{Metered}
-use Rattle.rules.specs.Trace.{Reached, Ends, first-none, first-stopped, settled, next-stopped}
+use Rattle.rules.specs.Trace.{Ends, first-none, first-stopped, settled, next-stopped}
 use Rattle.rules.proofs.RunTrace.{run-ends}
 use Rattle.rules.proofs.LogLaws.{LogAt, blank-counts, first-metered, chunk-metered, log-begun, log-counts, stop-log, logged, calls-opens-le, tries-le}
 

@@ -14,25 +14,22 @@
 use mathlib.Core.Path.{_≡_, refl, sym, _∙_, ap}
 use mathlib.Core.Logic.{_≢_, _⊎_, inl, inr}
 use mathlib.Core.Bool.{Bool, true, false, not}
-use mathlib.Core.List.{List, [], _∷_, _++_, map, List·Memᴰ·head, List·Memᴰ·tail, List·Memᴰ·not-nil, List·Memᴰ·append-cases, List·Memᴰ·eq-of-singleton, Memᴰ·append-left, Memᴰ·append-right}
-use Prim.Native.Nat.{ℕ, zero, suc, _+_, _-_, _≤_, _<_, min}
+use mathlib.Core.List.{List, [], _∷_, _++_, List·Memᴰ·append-cases, List·Memᴰ·eq-of-singleton, Memᴰ·append-left}
+use Prim.Native.Nat.{ℕ, zero, suc, _+_, _≤_, _<_}
 use native.Mathlib.Omega.{arith}
 use native.Mathlib.Nat.{zero-add}
 use lib.IntN.{ℤ}
 use lib.Dec.{eqb}
-use lib.ListN.{length, getD, set, take, replicate, length-replicate, getD-replicate, length-set, List·getD-eq-default}
+use lib.ListN.{length, take, length-set, List·getD-eq-default}
 use lib.Seq.{getD-set-same}
-use borrow.Author.Tests.{eqb-true, eqb-false, eq-eqb, ne-eqb}
-use Rattle.rules.specs.declared.RunAnswer.{RunAnswer}
-use Rattle.rules.specs.Lists.{In, any, all}
-use Rattle.rules.specs.Meaning.{Clause, Values, valueAt, indexOf, trueByte, negated, isTrue, hasTrue, satisfies, Total, Model, Proper}
-use Rattle.rules.specs.Search.{Call, model, no-model, stopped, callOn}
-use Rattle.rules.specs.Models.{Extends, Witness, by-model, by-flip, LeastModel, NoModelFrom}
-use Rattle.rules.specs.Run.{Task, Row, Progress, statusAt, opens, literalAt, candidatesFrom, freedFrom, differs, otherByte, flipped, canFlip, compared, flips, forcedBy, forceFirst, blank, forcedValue, forcedValues, chunkOf, constraint, chunkCall, afterModel, afterNone, afterStop, Ended, endedBy, begun, firstCall}
-use Rattle.rules.proofs.ListLaws.{both, never, any-sound, any-complete, and-left, in-map}
-use Rattle.rules.proofs.MeaningLaws.{set-cases, blank-proper, blank-extends, satisfies-append, satisfies-left, satisfies-right}
-use Rattle.rules.proofs.SearchLaws.{Says, callOn-says}
-use Rattle.rules.proofs.StatusLaws.{length-freedFrom, freed-at, candidate-open, literalAt-true, literalAt-negated, length-forceFirst, forceFirst-at, length-forcedValues, forcedValues-at, forcedValue-forcedBy, forcedValue-le}
+use borrow.Author.Tests.{eqb-true, eqb-false, eq-eqb}
+use Rattle.rules.specs.Lists.{In}
+use Rattle.rules.specs.Meaning.{Clause, Values, valueAt, indexOf, trueByte, negated, isTrue, hasTrue, Model, Proper}
+use Rattle.rules.specs.Models.{Extends, Witness, by-model, by-flip, NoModelFrom}
+use Rattle.rules.specs.Run.{Task, statusAt, literalAt, candidatesFrom, freedFrom, differs, otherByte, flipped, canFlip, compared, flips, forcedBy, forceFirst, forcedValue, forcedValues, constraint}
+use Rattle.rules.proofs.ListLaws.{both, never, any-complete, in-map}
+use Rattle.rules.proofs.MeaningLaws.{set-cases, satisfies-append}
+use Rattle.rules.proofs.StatusLaws.{length-freedFrom, freed-at, literalAt-negated, length-forceFirst, forceFirst-at, forcedValues-at, forcedValue-forcedBy, forcedValue-le}
 
 -- ---- what is known
 

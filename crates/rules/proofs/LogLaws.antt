@@ -12,22 +12,20 @@
 -- Assumes nothing.
 use mathlib.Core.Path.{_≡_, refl, sym, _∙_, ap}
 use mathlib.Core.Logic.{_⊎_, inl, inr}
-use mathlib.Core.Bool.{Bool, true, false}
 use mathlib.Core.List.{List, [], _∷_, _++_, List·Memᴰ·append-cases, List·Memᴰ·eq-of-singleton, List·Memᴰ·not-nil}
-use Prim.Native.Nat.{ℕ, zero, suc, _+_, _-_, _≤_, _<_, min}
+use Prim.Native.Nat.{ℕ, zero, suc, _+_, _≤_, _<_}
 use native.Mathlib.Omega.{arith}
-use lib.ListN.{length, drop, replicate, length-append}
+use lib.ListN.{length, drop, length-append}
 use lib.Seq.{drop-append-le}
 use Rattle.rules.specs.declared.Outcome.{Outcome}
 use Rattle.rules.specs.Lists.{In, count, sumOf}
 use Rattle.rules.specs.Meaning.{Values}
-use Rattle.rules.specs.Search.{Call, model, no-model, stopped, triesOf}
-use Rattle.rules.specs.Run.{Task, Row, Progress, opens, compared, flips, filtered, modelRow, differs, canFlip, freedFrom, forceFirst, blank, chunkOf, constraint, forcedValues, chunkCall, rowAfter, afterModel, afterNone, afterStop, begun, firstCall}
+use Rattle.rules.specs.Run.{Task, Row, Progress, opens, compared, filtered, modelRow, differs, canFlip, forceFirst, blank, chunkOf, constraint, forcedValues, chunkCall, rowAfter, afterModel, afterNone, afterStop, begun, firstCall}
 use Rattle.rules.specs.Answer.{isFree, isForced}
 use Rattle.rules.specs.Log.{drops, forcedIn, Settles, NumberedFrom, no-row, row, LogOf}
-use Rattle.rules.proofs.ListLaws.{sumOf-append, count-le}
+use Rattle.rules.proofs.ListLaws.{sumOf-append}
 use Rattle.rules.proofs.SearchLaws.{Metered, callOn-tries}
-use Rattle.rules.proofs.StatusLaws.{Freed, freed-counts, ForcedMore}
+use Rattle.rules.proofs.StatusLaws.{freed-counts, ForcedMore}
 use Rattle.rules.specs.Trace.{Reached, first-model, next-model, next-none}
 use Rattle.rules.proofs.RunTrace.{takes-some, model-drops, none-forces}
 

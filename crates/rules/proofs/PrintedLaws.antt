@@ -19,7 +19,7 @@ use lib.ListN.{length, length-replicate}
 use Rattle.rules.specs.declared.RunAnswer.{RunAnswer}
 use Rattle.rules.specs.Lists.{all, eqs}
 use Rattle.rules.specs.Text.{Sizes, linesOf, tokensFrom, numeral, headerOf, entryOf}
-use Rattle.rules.specs.Reading.{accepted, refused, judge, judgeTokens, judgeLines}
+use Rattle.rules.specs.Reading.{accepted, judge, judgeTokens, judgeLines}
 use Rattle.rules.specs.Grammar.{Dimacs}
 use Rattle.rules.specs.Closing.{stateOf, closeIn, closing}
 use Rattle.rules.specs.Search.{goOn, callOn}

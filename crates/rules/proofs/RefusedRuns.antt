@@ -5,25 +5,25 @@
 --
 -- Assumes nothing.
 use mathlib.Core.Path.{_≡_, refl, sym, _∙_, ap}
-use mathlib.Core.Logic.{_≢_, _⊎_, inl, inr, _↔_}
+use mathlib.Core.Logic.{_↔_}
 use mathlib.Core.Bool.{Bool, true, false, not}
-use mathlib.Core.List.{List, [], _∷_, _++_, List·Memᴰ·head, Memᴰ·append-right}
+use mathlib.Core.List.{_∷_, _++_, List·Memᴰ·head, Memᴰ·append-right}
 use mathlib.Core.Option.{Option, none, some}
-use Prim.Native.Nat.{ℕ, zero, suc, _≤_, _<_}
+use Prim.Native.Nat.{ℕ, _<_}
 use native.Mathlib.Omega.{arith}
-use lib.IntN.{ℤ, pos, negsuc}
+use lib.IntN.{ℤ, pos}
 use lib.Dec.{ltb}
 use lib.ListN.{length}
-use borrow.Author.Tests.{ltb-true, ltb-false, lt-ltb, le-ltb, not-true, not-false}
+use borrow.Author.Tests.{ltb-true, ltb-false, lt-ltb, le-ltb}
 use Rattle.rules.specs.declared.RunAnswer.{RunAnswer}
-use Rattle.rules.specs.Lists.{In, any, count, nthIndex, orNext}
+use Rattle.rules.specs.Lists.{any, count, nthIndex, orNext}
 use Rattle.rules.specs.Numbers.{maxClauses, maxEntries}
 use Rattle.rules.specs.Meaning.{varOf}
 use Rattle.rules.specs.Reading.{isZero}
-use Rattle.rules.specs.Answer.{Given, logLength, isEnded, isAbove, refusalOf}
+use Rattle.rules.specs.Answer.{Given, isEnded, isAbove, refusalOf}
 use Rattle.rules.specs.RunRefusals.{InLimits, Lent, Listed, Accepted, RunRefuses, bad-limits, short-buffer, list-long, not-ended, zero-over, entry-over-vars}
-use Rattle.rules.proofs.ListLaws.{both, never, any-sound, any-complete, none-of-any, any-of-none, count-append, count-pos, count-zero, count-of-none, eqz-sound}
-use Rattle.rules.proofs.AnswerLaws.{Nth, nthIndex-at, nthIndex-split, isEnded-snoc, isEnded-last, limits-test, room-test, limits-sound, limits-complete, limits-false, limits-of, room-sound, room-complete, room-false, list-false}
+use Rattle.rules.proofs.ListLaws.{any-sound, any-complete, none-of-any, any-of-none, count-append, count-pos, count-zero, count-of-none, eqz-sound}
+use Rattle.rules.proofs.AnswerLaws.{nthIndex-at, nthIndex-split, isEnded-snoc, isEnded-last, limits-test, room-test, limits-sound, limits-complete, limits-false, limits-of, room-sound, room-complete, room-false, list-false}
 use Rattle.rules.proofs.AnswerLaws.{refusal-lent, list-long-first, not-ended-first, zero-over-first, above-first, list-first}
 
 -- what a refusal, or none, says

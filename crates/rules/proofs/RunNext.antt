@@ -8,14 +8,14 @@
 -- Assumes nothing.
 use mathlib.Core.Path.{_≡_, refl, sym, _∙_, ap}
 use mathlib.Core.List.{List, [], _∷_, _++_}
-use Prim.Native.Nat.{ℕ, zero, suc, _+_, _≤_, _<_, min}
+use Prim.Native.Nat.{ℕ, zero, suc, _≤_, _<_, min}
 use native.Mathlib.Omega.{arith}
 use lib.IntN.{pos, negsuc}
 use lib.ListN.{length, replicate}
 use Rattle.rules.specs.Meaning.{Clause}
 use Rattle.rules.specs.Search.{Call, model, no-model, stopped, callOn}
 use Rattle.rules.specs.Units.{units, forcedClauses}
-use Rattle.rules.specs.Run.{Task, Progress, opens, blank, forcedValues, chunkOf, constraint, chunkCall, afterModel, afterNone, Ended, onCall, onOpen, chunksIn, chunks, run}
+use Rattle.rules.specs.Run.{Task, Progress, opens, blank, forcedValues, chunkOf, constraint, chunkCall, afterNone, Ended, onCall, onOpen, chunksIn, chunks, run}
 use Rattle.rules.proofs.StatusLaws.{length-forcedValues}
 use Rattle.rules.proofs.KnownLaws.{proper-forcedValues}
 use Rattle.rules.proofs.SearchOrder.{callOn-units}

@@ -13,29 +13,22 @@
 -- Assumes nothing.
 use mathlib.Core.Path.{_≡_, refl, sym, _∙_, ap}
 use mathlib.Core.Logic.{_≢_, _⊎_, inl, inr, _↔_}
-use mathlib.Core.Bool.{Bool, true, false}
-use mathlib.Core.List.{List, [], _∷_, _++_, List·Memᴰ·head}
-use Prim.Native.Nat.{ℕ, zero, suc, _+_, _≤_, _<_, min}
+use mathlib.Core.List.{List, [], _∷_, _++_}
+use Prim.Native.Nat.{ℕ, zero, suc, _≤_, _<_}
 use native.Mathlib.Omega.{arith}
 use lib.IntN.{ℤ, pos, negsuc}
-use lib.ListN.{length, replicate, length-append, length-replicate}
+use lib.ListN.{length, replicate, length-replicate}
 use lib.Seq.{ext-getD}
 use borrow.Author.Tests.{eqb-true, eq-eqb}
-use Rattle.rules.specs.declared.Outcome.{Outcome}
 use Rattle.rules.specs.declared.RunAnswer.{RunAnswer}
-use Rattle.rules.specs.Lists.{In, count}
-use Rattle.rules.specs.Meaning.{Clause, Values, valueAt, indexOf, trueByte, isTrue, LitUpTo, Model}
-use Rattle.rules.specs.Search.{Call, model, no-model, stopped}
-use Rattle.rules.specs.Models.{Extends, NoModel, Forced, Free, Witness, by-model, by-flip, WitnessOf, NoModelFrom}
-use Rattle.rules.specs.Run.{Task, Row, Progress, statusAt, isForcedTo, opens, isOpen, forcedBy, forcedValue, blank, flipped, rowAfter, afterNone, afterStop, Ended, begun, firstCall, chunkCall, run}
-use Rattle.rules.specs.Answer.{isFree, isForced}
-use Rattle.rules.specs.Log.{LogOf}
-use Rattle.rules.proofs.ListLaws.{never}
+use Rattle.rules.specs.Lists.{In}
+use Rattle.rules.specs.Meaning.{Clause, Values, valueAt, indexOf, trueByte, LitUpTo, Model}
+use Rattle.rules.specs.Models.{NoModel, Forced, Free, Witness, by-model, by-flip, WitnessOf}
+use Rattle.rules.specs.Run.{Task, Progress, statusAt, isForcedTo, opens, forcedBy, forcedValue, flipped, Ended, run}
 use Rattle.rules.proofs.MeaningLaws.{blank-extends, blank-proper}
 use Rattle.rules.proofs.KnownLaws.{Known, first-model-is}
 use Rattle.rules.specs.Trace.{withLimits, Reached, first-model, next-model, next-none, Ends, first-none, first-stopped, settled, next-stopped}
 use Rattle.rules.proofs.RunTrace.{known, run-ends, first-none-of}
-use Rattle.rules.proofs.LogLaws.{logged, log-begun, stop-log, calls-opens-le, tries-le, LogAt}
 
 -- ---- the models of a run: the first one found is the first in its list
 

@@ -13,30 +13,27 @@
 -- Assumes nothing.
 use mathlib.Core.Path.{_≡_, refl, sym, _∙_, ap}
 use mathlib.Core.Logic.{_≢_, _⊎_, inl, inr}
-use mathlib.Core.Bool.{Bool, true, false, not}
-use mathlib.Core.List.{List, [], _∷_, _++_, map, List·Memᴰ·head, List·Memᴰ·tail, List·Memᴰ·not-nil, List·Memᴰ·append-cases, List·Memᴰ·eq-of-singleton, Memᴰ·append-left, Memᴰ·append-right}
-use Prim.Native.Nat.{ℕ, zero, suc, _+_, _-_, _≤_, _<_, min}
+use mathlib.Core.Bool.{true, not}
+use mathlib.Core.List.{List, [], _∷_, _++_, List·Memᴰ·head, List·Memᴰ·eq-of-singleton, Memᴰ·append-right}
+use Prim.Native.Nat.{ℕ, zero, suc, _+_, _≤_, _<_, min}
 use native.Mathlib.Omega.{arith}
 use native.Mathlib.Nat.{zero-add}
 use lib.IntN.{ℤ}
-use lib.Dec.{eqb}
-use lib.ListN.{length, getD, set, take, replicate, length-replicate, getD-replicate, length-set, List·getD-eq-default}
-use lib.Seq.{getD-set-same, length-take-le}
-use borrow.Author.Tests.{eqb-true, eqb-false, eq-eqb, ne-eqb}
-use Rattle.rules.specs.declared.RunAnswer.{RunAnswer}
-use Rattle.rules.specs.Lists.{In, any, all}
-use Rattle.rules.specs.Meaning.{Clause, Values, valueAt, indexOf, trueByte, negated, isTrue, hasTrue, satisfies, Total, Model, Proper}
-use Rattle.rules.specs.Search.{Call, model, no-model, stopped, callOn}
-use Rattle.rules.specs.Models.{Extends, Witness, by-model, by-flip, LeastModel, NoModelFrom}
-use Rattle.rules.specs.Run.{Task, Row, Progress, statusAt, isForcedTo, opens, literalAt, candidatesFrom, freedFrom, differs, otherByte, flipped, canFlip, compared, flips, filtered, forcedBy, forceFirst, blank, forcedValue, forcedValues, chunkOf, constraint, chunkCall, afterModel, afterNone, afterStop, Ended, endedBy, begun, onCall, onOpen, chunksIn, chunks, onFirst, firstCall, run}
-use Rattle.rules.specs.Answer.{isFree, isForced}
+use lib.ListN.{length, take, replicate, length-replicate}
+use lib.Seq.{length-take-le}
+use borrow.Author.Tests.{eqb-true, ne-eqb}
+use Rattle.rules.specs.Lists.{In}
+use Rattle.rules.specs.Meaning.{Values, valueAt, indexOf, trueByte, negated, isTrue, hasTrue, Total, Model}
+use Rattle.rules.specs.Search.{Call, model, no-model, stopped}
+use Rattle.rules.specs.Models.{LeastModel, NoModelFrom}
+use Rattle.rules.specs.Run.{Task, Progress, statusAt, isForcedTo, opens, literalAt, candidatesFrom, differs, otherByte, canFlip, compared, filtered, forcedBy, forceFirst, blank, forcedValues, chunkOf, constraint, chunkCall, onCall, onOpen, chunksIn, chunks, onFirst, firstCall, run}
 use Rattle.rules.specs.Trace.{Taken, as-many, all-left, Takes, Doubled, twice, at-limit, FreesSome, ForcesChunk, Leaves}
 use Rattle.rules.specs.Trace.{Reached, first-model, next-model, next-none, Ends, first-none, first-stopped, settled, next-stopped}
-use Rattle.rules.proofs.ListLaws.{le-or-lt, both, never, any-sound, any-complete, and-left, map-in, in-take}
-use Rattle.rules.proofs.MeaningLaws.{set-cases, blank-proper, blank-extends, satisfies-append, satisfies-left, satisfies-right}
+use Rattle.rules.proofs.ListLaws.{le-or-lt, any-sound, and-left, map-in, in-take}
+use Rattle.rules.proofs.MeaningLaws.{blank-proper, satisfies-left, satisfies-right}
 use Rattle.rules.proofs.SearchLaws.{Says, callOn-says}
 use Rattle.rules.proofs.KnownLaws.{Known, first-model-is, otherByte-valued, known-more, known-filtered, known-none, proper-forcedValues}
-use Rattle.rules.proofs.StatusLaws.{freed-counts, opens-freed-lt, ForcedMore, forceFirst-counts, ForcedIn, chunk-forced, length-candidates, length-freedFrom, freed-at, candidate-open, literalAt-true, literalAt-negated, length-forceFirst, forceFirst-at, length-forcedValues, forcedValues-at, forcedValue-forcedBy, forcedValue-le}
+use Rattle.rules.proofs.StatusLaws.{freed-counts, opens-freed-lt, ForcedMore, forceFirst-counts, ForcedIn, chunk-forced, length-candidates, freed-at, candidate-open, literalAt-true, literalAt-negated, forceFirst-at, length-forcedValues}
 
 -- ---- what the calls say
 

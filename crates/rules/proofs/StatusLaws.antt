@@ -11,18 +11,17 @@
 --   length-forcedValues, forcedValues-at, forcedValue-forcedBy, forcedValue-le     the values of the forced literals
 --
 -- Assumes nothing.
-use mathlib.Core.Path.{_≡_, refl, sym, _∙_, ap}
+use mathlib.Core.Path.{_≡_, refl, ap}
 use mathlib.Core.Logic.{_≢_, _⊎_, inl, inr}
-use mathlib.Core.Bool.{Bool, true, false, not}
-use mathlib.Core.List.{List, [], _∷_, _++_, map, List·Memᴰ·head, List·Memᴰ·tail, List·Memᴰ·not-nil}
-use Prim.Native.Nat.{ℕ, zero, suc, _+_, _-_, _≤_, _<_, min}
+use mathlib.Core.Bool.{Bool, true, false}
+use mathlib.Core.List.{List, [], _∷_, List·Memᴰ·head, List·Memᴰ·tail, List·Memᴰ·not-nil}
+use Prim.Native.Nat.{ℕ, zero, suc, _+_, _≤_, _<_}
 use native.Mathlib.Omega.{arith}
-use native.Mathlib.Nat.{add-zero, add-suc, suc-add, zero-add}
-use lib.IntN.{ℤ, pos, negsuc}
-use lib.Dec.{eqb, leb}
-use lib.ListN.{length, getD, take, length-map}
+use native.Mathlib.Nat.{add-zero, add-suc, suc-add}
+use lib.IntN.{ℤ}
+use lib.ListN.{length, take, length-map}
 use Rattle.rules.specs.Lists.{In, count, countIf}
-use Rattle.rules.specs.Meaning.{Values, valueAt, indexOf, trueByte, negated, isTrue}
+use Rattle.rules.specs.Meaning.{Values, valueAt, indexOf, trueByte, negated}
 use Rattle.rules.specs.Run.{statusAt, isOpen, opens, literalAt, candidatesFrom, freedIf, freedFrom, otherByte, forcedBy, forceFirst, forcedValue, forcedValues}
 use Rattle.rules.specs.Answer.{isFree, isForced}
 

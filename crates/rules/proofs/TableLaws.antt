@@ -3,25 +3,21 @@
 --   length-tableOf    no table is longer than maxTable
 --
 -- Assumes nothing.
-use mathlib.Core.Path.{_≡_, refl, sym, _∙_, ap}
+use mathlib.Core.Path.{_≡_, refl, _∙_, ap}
 use mathlib.Core.Logic.{_⊎_, inl, inr}
 use mathlib.Core.List.{List, [], _∷_, _++_}
-use Prim.Native.Nat.{ℕ, zero, suc, _+_, _-_, _*_, _≤_, _<_}
+use Prim.Native.Nat.{ℕ, zero, suc, _+_, _-_, _*_, _≤_}
 use native.Mathlib.Omega.{arith}
-use lib.IntN.{ℤ}
-use lib.ListN.{length, drop, replicate, length-append, length-replicate}
+use lib.ListN.{length, length-append, length-replicate}
 use Rattle.rules.specs.declared.ReadAnswer.{ReadAnswer}
 use Rattle.rules.specs.declared.RunAnswer.{RunAnswer}
 use Rattle.rules.specs.declared.Report.{Report}
-use Rattle.rules.specs.Lists.{count}
-use Rattle.rules.specs.Numbers.{maxText, maxVars, maxEntries, readNumber, readPlace, runNumber, runPlace}
-use Rattle.rules.specs.Text.{Sizes}
+use Rattle.rules.specs.Numbers.{maxText, maxVars, maxEntries, readNumber, readPlace, runNumber}
 use Rattle.rules.specs.Reading.{Judged, accepted, refused, judge}
-use Rattle.rules.specs.Plain.{decimal}
 use Rattle.rules.specs.Run.{run}
-use Rattle.rules.specs.Answer.{Given, taskOf, isFree, isForced, refusalOf, reportOf, statusAfter, logLength}
+use Rattle.rules.specs.Answer.{Given, taskOf, isFree, isForced, reportOf, statusAfter}
 use Rattle.rules.specs.RunRefusals.{Accepted}
-use Rattle.rules.specs.Printed.{answerWord, callsWord, triesWord, forcedWord, freeWord, openWord, refusedWord, placeWord, refusedLine, answerLine, statusWords, statusLines, tableBy, tableGiven, tableOfJudged, tableOf, maxTable}
+use Rattle.rules.specs.Printed.{refusedLine, answerLine, statusWords, statusLines, tableBy, tableGiven, tableOfJudged, tableOf, maxTable}
 use Rattle.rules.proofs.ListLaws.{count-le}
 use Rattle.rules.proofs.DecimalLaws.{decimal-most}
 use Rattle.rules.proofs.RefusalLaws.{refusal-sound}

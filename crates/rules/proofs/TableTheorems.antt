@@ -10,10 +10,10 @@
 --
 -- Assumes nothing.
 use mathlib.Core.Path.{_≡_, refl, sym, _∙_, ap}
-use mathlib.Core.Logic.{_≢_, _⊎_, inl, inr, _↔_}
-use mathlib.Core.Bool.{Bool, true, false, cond, _||_}
+use mathlib.Core.Logic.{_⊎_, inl, inr, _↔_}
+use mathlib.Core.Bool.{false, cond}
 use mathlib.Core.List.{List, [], _∷_, _++_, append-assoc, append-nil, append-cancel-left}
-use mathlib.Core.Option.{Option, none}
+use mathlib.Core.Option.{none}
 use Prim.Native.Nat.{ℕ, zero, suc, _+_, _-_, _≤_, _<_}
 use native.Mathlib.Omega.{arith}
 use native.Mathlib.Nat.{add-zero, add-suc, suc-add}
@@ -27,14 +27,14 @@ use Rattle.rules.specs.declared.Report.{Report}
 use Rattle.rules.specs.Lists.{any, cut, joined}
 use Rattle.rules.specs.Numbers.{maxEntries, readNumber, readPlace, runNumber}
 use Rattle.rules.specs.Text.{isLf, isDigit, Sizes}
-use Rattle.rules.specs.Reading.{Judged, accepted, refused, judge}
+use Rattle.rules.specs.Reading.{accepted, judge}
 use Rattle.rules.specs.Grammar.{Dimacs}
 use Rattle.rules.specs.Refusals.{Refuses}
-use Rattle.rules.specs.Meaning.{LitUpTo, clauses}
+use Rattle.rules.specs.Meaning.{clauses}
 use Rattle.rules.specs.Models.{NoModel, Forced, Free}
 use Rattle.rules.specs.Plain.{decimal}
 use Rattle.rules.specs.Run.{Task, Ended, statusAt, run}
-use Rattle.rules.specs.Answer.{refusalOf, taskOf, reportOfRun, reportIf, reportOf, statusIf, statusAfter}
+use Rattle.rules.specs.Answer.{refusalOf, reportOfRun, reportOf, statusAfter}
 use Rattle.rules.specs.Printed.{answerWord, callsWord, triesWord, forcedWord, freeWord, openWord, onWord, offWord}
 use Rattle.rules.specs.Printed.{refusedLine, answerLine, statusWords, statusLines, tableBy, tableOfRun, tableGiven, tableOfJudged, tableOf}
 use Rattle.rules.specs.Tables.{lineAt, SaysAnswer, tableTask}

@@ -5,18 +5,17 @@
 --   dimacs-runs       the entries of a DIMACS text are accepted by a run that has room
 --
 -- Assumes nothing.
-use mathlib.Core.Path.{_≡_, refl, sym, _∙_, ap}
-use mathlib.Core.Bool.{true, false}
+use mathlib.Core.Path.{_≡_, refl}
+use mathlib.Core.Bool.{true}
 use mathlib.Core.List.{List, [], _∷_, _++_}
-use Prim.Native.Nat.{ℕ, suc, _≤_}
+use Prim.Native.Nat.{ℕ, _≤_}
 use native.Mathlib.Omega.{arith}
 use lib.IntN.{ℤ, pos}
 use lib.ListN.{length}
 use Rattle.rules.specs.declared.ReadAnswer.{ReadAnswer}
-use Rattle.rules.specs.Lists.{In, count}
 use Rattle.rules.specs.Numbers.{maxEntries}
-use Rattle.rules.specs.Meaning.{Clause, varOf, clauses}
-use Rattle.rules.specs.Reading.{isZero, readingOf, filled, entriesAfter}
+use Rattle.rules.specs.Meaning.{Clause, clauses}
+use Rattle.rules.specs.Reading.{readingOf, filled, entriesAfter}
 use Rattle.rules.specs.Grammar.{ClausesOf, no-clause, clause, Dimacs}
 use Rattle.rules.specs.Plain.{plain, entriesOf, Within}
 use Rattle.rules.specs.Answer.{Given, isEnded}

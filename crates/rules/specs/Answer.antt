@@ -1,10 +1,10 @@
 -- docs/RULES.md, "What comes back", for the run: its refusals in their order, what it returns, and what the two lent buffers hold
 -- afterwards. Assumes nothing.
 use mathlib.Core.Path.{_≡_}
-use mathlib.Core.Bool.{Bool, true, false, not, _||_}
+use mathlib.Core.Bool.{Bool, true, not, _||_}
 use mathlib.Core.List.{List, [], _∷_, _++_, map}
 use mathlib.Core.Option.{Option, none, some}
-use Prim.Native.Nat.{ℕ, zero, suc, _+_, _-_, _*_}
+use Prim.Native.Nat.{ℕ, _+_, _-_, _*_}
 use lib.Dec.{eqb, leb, ltb}
 use lib.IntN.{ℤ}
 use lib.ListN.{length, drop, replicate}
@@ -14,7 +14,7 @@ use Rattle.rules.specs.Lists.{any, count, joined, nthIndex, Check, check
 use Rattle.rules.specs.Numbers.{maxVars, maxClauses, maxEntries, maxChunk, outcomeNumber}
 use Rattle.rules.specs.Meaning.{varOf, clauses}
 use Rattle.rules.specs.Reading.{isZero}
-use Rattle.rules.specs.Run.{Task, Row, Progress, Ended, run}
+use Rattle.rules.specs.Run.{Task, Row, Ended, run}
 
 -- what a run is given, and the two buffers as they are lent
 pub record Given : Type 0 where
