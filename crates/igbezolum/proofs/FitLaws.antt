@@ -70,7 +70,8 @@ runs-fit {g = g} {r = r} d = go (refusalOf g) refl (report-is d)
 
 -- ---- the promise in numbers follows from the promise of the crate below
 
-pub reads-in : {text : List ℕ} {before after : List ℤ} {r : Reading} {n : IgbReading} → Reads text before r after → n ≡ readingNumbers r → ReadsIn text before n after
+pub reads-in : {text : List ℕ} {before after : List ℤ} {r : Reading} {n : IgbReading}
+    → Reads text before r after → n ≡ readingNumbers r → ReadsIn text before n after
 reads-in d e = record { result-is = e ∙ ap readingNumbers (d .result-is); after-is = d .after-is }
 
 pub runs-in : {g : Given} {r : Report} {status log : List ℕ} {n : IgbReport} → Runs g r status log → n ≡ reportNumbers r → RunsIn g n status log

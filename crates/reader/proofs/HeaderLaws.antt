@@ -112,7 +112,8 @@ words-first line n here = go (decLt n (length line))
     go (yes h) =
         ap wordsOf (cut-first isGap line (omega (arith, is-n))) ∙
         rw is-n
-        (ap (λ (xs : List ℕ). take n line ∷ keep (λ v. not (isEmpty v)) (cut isGap xs)) (ap (λ (i : ℕ). drop i line) (sym (add-one n)) ∙ sym (drop-drop 1 n line)) ∙
+        (ap (λ (xs : List ℕ). take n line ∷ keep (λ v. not (isEmpty v)) (cut isGap xs))
+        (ap (λ (i : ℕ). drop i line) (sym (add-one n)) ∙ sym (drop-drop 1 n line)) ∙
         ap (λ (ws : List (List ℕ)). take n line ∷ ws) (stops-words n (rw is-n at (first-stops isGap line))))
     go (no h) =
         ap wordsOf (cut-whole isGap line (omega (arith, is-n))) ∙
@@ -206,24 +207,31 @@ module _ {line : List ℕ} {p cnf cnf-end vars vars-end clauses clauses-end more
     where
       fourth :
           Dec (clauses < length line) →
-          sizesOf (W ∷ part line cnf cnf-end ∷ part line vars vars-end ∷ wordsAt line vars-end) ≡ sizesOf (W ∷ part line cnf cnf-end ∷ part line vars vars-end ∷ part line clauses clauses-end ∷ [])
+          sizesOf (W ∷ part line cnf cnf-end ∷ part line vars vars-end ∷ wordsAt line vars-end)
+          ≡ sizesOf (W ∷ part line cnf cnf-end ∷ part line vars vars-end ∷ part line clauses clauses-end ∷ [])
       fourth (yes l) =
           ap (λ (ws : List (List ℕ)). sizesOf (W ∷ part line cnf cnf-end ∷ part line vars vars-end ∷ ws))
           (at-next line vars-end clauses clauses-end (w .clauses-from) (w .clauses-to) l ∙
           ap (λ (ws : List (List ℕ)). part line clauses clauses-end ∷ ws) (at-none line clauses-end more (w .more-from) h))
       fourth (no l) =
-          ap (λ (ws : List (List ℕ)). sizesOf (W ∷ part line cnf cnf-end ∷ part line vars vars-end ∷ ws)) (at-none line vars-end clauses (w .clauses-from) (omega arith)) ∙
+          ap (λ (ws : List (List ℕ)). sizesOf (W ∷ part line cnf cnf-end ∷ part line vars vars-end ∷ ws))
+          (at-none line vars-end clauses (w .clauses-from) (omega arith)) ∙
           no-clauses W (part line cnf cnf-end) (part line vars vars-end) ∙
-          ap (λ (x : List ℕ). sizesOf (W ∷ part line cnf cnf-end ∷ part line vars vars-end ∷ x ∷ [])) (part-none line clauses clauses-end (w .clauses-to) (omega arith))
+          ap (λ (x : List ℕ). sizesOf (W ∷ part line cnf cnf-end ∷ part line vars vars-end ∷ x ∷ []))
+          (part-none line clauses clauses-end (w .clauses-to) (omega arith))
 
       third :
           Dec (vars < length line) →
-          sizesOf (W ∷ part line cnf cnf-end ∷ wordsAt line cnf-end) ≡ sizesOf (W ∷ part line cnf cnf-end ∷ part line vars vars-end ∷ part line clauses clauses-end ∷ [])
-      third (yes l) = ap (λ (ws : List (List ℕ)). sizesOf (W ∷ part line cnf cnf-end ∷ ws)) (at-next line cnf-end vars vars-end (w .vars-from) (w .vars-to) l) ∙ fourth (decLt clauses (length line))
+          sizesOf (W ∷ part line cnf cnf-end ∷ wordsAt line cnf-end)
+          ≡ sizesOf (W ∷ part line cnf cnf-end ∷ part line vars vars-end ∷ part line clauses clauses-end ∷ [])
+      third (yes l) =
+          ap (λ (ws : List (List ℕ)). sizesOf (W ∷ part line cnf cnf-end ∷ ws)) (at-next line cnf-end vars vars-end (w .vars-from) (w .vars-to) l) ∙
+          fourth (decLt clauses (length line))
       third (no l) =
           ap (λ (ws : List (List ℕ)). sizesOf (W ∷ part line cnf cnf-end ∷ ws)) (at-none line cnf-end vars (w .vars-from) (omega arith)) ∙
           no-vars W (part line cnf cnf-end) (part line clauses clauses-end) ∙
-          ap (λ (x : List ℕ). sizesOf (W ∷ part line cnf cnf-end ∷ x ∷ part line clauses clauses-end ∷ [])) (part-none line vars vars-end (w .vars-to) (omega arith))
+          ap (λ (x : List ℕ). sizesOf (W ∷ part line cnf cnf-end ∷ x ∷ part line clauses clauses-end ∷ []))
+          (part-none line vars vars-end (w .vars-to) (omega arith))
 
       second :
           Dec (cnf < length line) →
@@ -232,7 +240,8 @@ module _ {line : List ℕ} {p cnf cnf-end vars vars-end clauses clauses-end more
       second (no l) =
           ap (λ (ws : List (List ℕ)). sizesOf (W ∷ ws)) (at-none line p cnf (w .cnf-from) (omega arith)) ∙
           no-cnf W (part line vars vars-end) (part line clauses clauses-end) ∙
-          ap (λ (x : List ℕ). sizesOf (W ∷ x ∷ part line vars vars-end ∷ part line clauses clauses-end ∷ [])) (part-none line cnf cnf-end (w .cnf-to) (omega arith))
+          ap (λ (x : List ℕ). sizesOf (W ∷ x ∷ part line vars vars-end ∷ part line clauses clauses-end ∷ []))
+          (part-none line cnf cnf-end (w .cnf-to) (omega arith))
 
   pub header-four :
       length line ≤ more → {r : HeaderLine} →
@@ -251,10 +260,14 @@ module _ {line : List ℕ} {p cnf cnf-end vars vars-end clauses clauses-end more
           ap (λ (ws : List (List ℕ)). sizesOf (W ∷ part line cnf cnf-end ∷ part line vars vars-end ∷ ws))
           (at-next line vars-end clauses clauses-end (w .clauses-from) (w .clauses-to) l ∙
           ap (λ (ws : List (List ℕ)). part line clauses clauses-end ∷ ws) (at-next line clauses-end more (firstFrom isGap line more) (w .more-from) refl h))
-      fourth (no l) = ap (λ (ws : List (List ℕ)). sizesOf (W ∷ part line cnf cnf-end ∷ part line vars vars-end ∷ ws)) (at-none line vars-end clauses (w .clauses-from) (omega arith))
+      fourth (no l) =
+          ap (λ (ws : List (List ℕ)). sizesOf (W ∷ part line cnf cnf-end ∷ part line vars vars-end ∷ ws))
+          (at-none line vars-end clauses (w .clauses-from) (omega arith))
 
       third : Dec (vars < length line) → sizesOf (W ∷ part line cnf cnf-end ∷ wordsAt line cnf-end) ≡ none
-      third (yes l) = ap (λ (ws : List (List ℕ)). sizesOf (W ∷ part line cnf cnf-end ∷ ws)) (at-next line cnf-end vars vars-end (w .vars-from) (w .vars-to) l) ∙ fourth (decLt clauses (length line))
+      third (yes l) =
+          ap (λ (ws : List (List ℕ)). sizesOf (W ∷ part line cnf cnf-end ∷ ws)) (at-next line cnf-end vars vars-end (w .vars-from) (w .vars-to) l) ∙
+          fourth (decLt clauses (length line))
       third (no l) = ap (λ (ws : List (List ℕ)). sizesOf (W ∷ part line cnf cnf-end ∷ ws)) (at-none line cnf-end vars (w .vars-from) (omega arith))
 
       second : Dec (cnf < length line) → sizesOf (W ∷ wordsAt line p) ≡ none

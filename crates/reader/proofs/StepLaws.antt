@@ -162,12 +162,15 @@ module _ (h : Header) (text : List ℕ) (c : Cursor) where
       (c .entries < maxEntries) × (natAbs l ≤ h .vars)
   kept l from e =
       let one = no-rule (leb (h .clauses) (c .clauses)) (ReadAnswer.TokenBehind from) _ e .1 in
-      let two = no-rule (ltb (h .vars) (natAbs l)) (ReadAnswer.TokenOverVars from) _ one in
-      (leb-false maxEntries (c .entries) (no-rule (leb maxEntries (c .entries)) (ReadAnswer.ManyTokens from) none (two .1) .0), ltb-false (h .vars) (natAbs l) (two .0))
+      let two = no-rule (ltb (h .vars) (natAbs l)) (ReadAnswer.TokenOverVars from) _ one in (
+        leb-false maxEntries (c .entries) (no-rule (leb maxEntries (c .entries)) (ReadAnswer.ManyTokens from) none (two .1) .0),
+        ltb-false (h .vars) (natAbs l) (two .0),
+      )
 
   judges-token :
       (from to : ℕ) (w : List ℕ) → c .at < to → to ≤ length text →
-      Judges h text c (judgeTokens (sizes h) (length text) (c .clauses) (c .entries) (record { at = from; bytes = w } ∷ tokensFrom to (drop to text))) (tokenStep (entryOf w) h c from to)
+      Judges h text c (judgeTokens (sizes h) (length text) (c .clauses) (c .entries) (record { at = from; bytes = w } ∷ tokensFrom to (drop to text)))
+      (tokenStep (entryOf w) h c from to)
   unfolding judgeTokens
   judges-token from to w lt le = token (entryOf w)
     where
@@ -177,7 +180,9 @@ module _ (h : Header) (text : List ℕ) (c : Cursor) where
           (unless o (withEntry l (judgeTokens (sizes h) (length text) (countIf (isZero l) (c .clauses)) (suc (c .entries)) (tokensFrom to (drop to text)))))
           (stepIf o (Step.Store l (record { at = to; clauses = countIf (isZero l) (c .clauses); entries = c .entries + 1 })))
       entry l none q = record {
-        judged = ap (λ (n : ℕ). withEntry l (judgeTokens (sizes h) (length text) (countIf (isZero l) (c .clauses)) n (tokensFrom to (drop to text)))) (sym (add-one (c .entries)));
+        judged =
+            ap (λ (n : ℕ). withEntry l (judgeTokens (sizes h) (length text) (countIf (isZero l) (c .clauses)) n (tokensFrom to (drop to text))))
+            (sym (add-one (c .entries)));
         onward = lt;
         within = le;
         count = refl;
@@ -217,7 +222,9 @@ module _ (h : Header) (text : List ℕ) (c : Cursor) where
           let long : from + length w ≡ to = word-long h text c from to refl l in
           let onward : c .at < to = omega (arith, lt) in
           subst judges (sym (words-next isBlank text (c .at) from refl to refl l))
-          (subst (λ (i : ℕ). Judges h text c (judgeTokens (sizes h) (length text) (c .clauses) (c .entries) (record { at = from; bytes = w } ∷ tokensFrom to (drop to text))) (tokenStep (entryOf w) h c from i)) (sym long)
+          (subst (λ (i : ℕ). Judges h text c
+          (judgeTokens (sizes h) (length text) (c .clauses) (c .entries) (record { at = from; bytes = w } ∷ tokensFrom to (drop to text)))
+          (tokenStep (entryOf w) h c from i)) (sym long)
           (judges-token from to w onward le))
       go (no l) = subst judges (sym (words-none isBlank text (c .at) from refl (omega arith))) judges-end
 

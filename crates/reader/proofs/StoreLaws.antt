@@ -26,7 +26,8 @@ use Rattle.rules.specs.declared.Reading.{Reading}
 use Rattle.rules.specs.Lists.{check, firstOf, countIf}
 use Rattle.rules.specs.Numbers.{maxText, maxEntries}
 use Rattle.rules.specs.Text.{Piece, Sizes, isSkipped, headerOf, entryOf, linesOf, tokensFrom}
-use Rattle.rules.specs.Reading.{Judged, accepted, refused, unless, isZero, withEntry, judgeToken, judgeEnd, judgeTokens, judgeSizes, fits, judgeHeader, judgeLine, judgeLines, judge, returned, readingOf, filled, written, entriesAfter, Reads}
+use Rattle.rules.specs.Reading.{Judged, accepted, refused, unless, isZero, withEntry, judgeToken, judgeEnd, judgeTokens, judgeSizes, fits}
+use Rattle.rules.specs.Reading.{judgeHeader, judgeLine, judgeLines, judge, returned, readingOf, filled, written, entriesAfter, Reads}
 use Rattle.rules.proofs.ListLaws.{never}
 use Rattle.reader.specs.declared.header.Header.{Header}
 use Rattle.reader.specs.declared.tokens.Cursor.{Cursor}
@@ -49,7 +50,12 @@ module _ (before : List ℤ) (from i : ℕ) (low : from ≤ i) where
 
   front-long : i ≤ length before → length front ≡ i
   front-long h =
-      omega (arith, length-append (take from before) (replicate (i - from) (pos 0)), length-take-le from before (omega arith), length-replicate (i - from) (pos 0))
+      omega (
+        arith,
+        length-append (take from before) (replicate (i - from) (pos 0)),
+        length-take-le from before (omega arith),
+        length-replicate (i - from) (pos 0),
+      )
 
   pub length-clear : i ≤ length before → length (cleared before from i) ≡ length before
   length-clear h = omega (arith, length-append front (drop i before), front-long h, length-drop i before)
@@ -94,7 +100,8 @@ pub record Progress (h : Header) (text : List ℕ) (from : ℕ) (before : List �
 pub progress-start : (h : Header) (text : List ℕ) (from : ℕ) (before : List ℤ) → Progress h text from before (start from) before
 progress-start h text from before = record { most = omega arith; long = refl; rest = refl; judged = refl }
 
-module _ (h : Header) (text : List ℕ) (from : ℕ) (before : List ℤ) (room : maxEntries ≤ length before) (c : Cursor) (now : List ℤ) (p : Progress h text from before c now) where
+module _ (h : Header) (text : List ℕ) (from : ℕ) (before : List ℤ) (room : maxEntries ≤ length before)
+    (c : Cursor) (now : List ℤ) (p : Progress h text from before c now) where
   pub progress-step :
       (l : ℤ) (next : Cursor) → After h text c (left h text c) l next → Progress h text from before next (set now (c .entries) l)
   progress-step l next a =
@@ -108,7 +115,8 @@ module _ (h : Header) (text : List ℕ) (from : ℕ) (before : List ℤ) (room :
             p .judged ∙
             ap (withEntries (take (c .entries) now)) (a .judged) ∙
             with-snoc (take (c .entries) now) l (left h text next) ∙
-            ap (λ (es : List ℤ). withEntries es (left h text next)) (sym (ap (λ (n : ℕ). take n (set now (c .entries) l)) more ∙ take-suc-set now (c .entries) l there));
+            ap (λ (es : List ℤ). withEntries es (left h text next))
+            (sym (ap (λ (n : ℕ). take n (set now (c .entries) l)) more ∙ take-suc-set now (c .entries) l there));
       }
 
   pub progress-refused :
@@ -187,7 +195,8 @@ late-tokens s end k n (t ∷ ts) = go (entryOf (t .bytes)) (λ j. late-tokens s 
     go none ih = refl
     go (some l) ih =
         late-rules (leb (s .clauses) k) (ltb (s .vars) (natAbs l)) (leb maxEntries n) (t .at)
-        (withEntry l (judgeTokens s end (countIf (isZero l) k) (suc n) ts)) (late-entry l (judgeTokens s end (countIf (isZero l) k) (suc n) ts) (ih (countIf (isZero l) k)))
+        (withEntry l (judgeTokens s end (countIf (isZero l) k) (suc n) ts))
+        (late-entry l (judgeTokens s end (countIf (isZero l) k) (suc n) ts) (ih (countIf (isZero l) k)))
 
 late-header : (text : List ℕ) (line : Piece) (o : Option Sizes) → isLate (judgeHeader o text line) ≡ true
 late-header text line none = refl

@@ -20,7 +20,7 @@ use Rattle.rules.specs.Reading.{isZero}
 use Rattle.rules.specs.Answer.{Given, isEnded, isAbove, listRules, refusalOf}
 use Rattle.rules.specs.RunRefusals.{Lent, RunRefuses}
 use Rattle.rules.proofs.ListLaws.{any-of-count, count-zero}
-use Rattle.rules.proofs.AnswerLaws.{Nth, nthIndex-split, refusal-lent}
+use Rattle.rules.proofs.AnswerLaws.{nthIndex-split, refusal-lent}
 use Rattle.rules.proofs.AnswerLaws.{list-long-first, not-ended-first, zero-over-first, above-first, list-first}
 use Rattle.rules.proofs.RefusedRuns.{run-refused}
 use Rattle.refusals.specs.declared.Refusal.{Refusal}

@@ -44,7 +44,8 @@ module _ {A : Type 0} (p : A → Bool) where
   nthIndex-at [] x back h = rw h
   nthIndex-at (y ∷ front) x back h = go (p y) refl (nthIndex-at front x back h)
     where
-      go : (b : Bool) → p y ≡ b → nthIndex p (front ++ x ∷ back) (count p front) ≡ length front → indexIf b (countIf b (count p front)) (λ k. nthIndex p (front ++ x ∷ back) k) ≡ suc (length front)
+      go : (b : Bool) → p y ≡ b → nthIndex p (front ++ x ∷ back) (count p front) ≡ length front
+          → indexIf b (countIf b (count p front)) (λ k. nthIndex p (front ++ x ∷ back) k) ≡ suc (length front)
       go true e ih = ap suc ih
       go false e ih = ap suc ih
 
@@ -111,7 +112,8 @@ module _ (g : Given) where
       rest (inl e) = inl (eqb-true _ _ e)
       rest (inr e) = inr (ltb-true _ _ e)
 
-      go : (ltb maxVars (g .vars) ≡ true) ⊎ ((eqb (g .limit) 0 || ltb maxChunk (g .limit)) ≡ true) → (maxVars < g .vars) ⊎ ((g .limit ≡ 0) ⊎ (maxChunk < g .limit))
+      go : (ltb maxVars (g .vars) ≡ true) ⊎ ((eqb (g .limit) 0 || ltb maxChunk (g .limit)) ≡ true)
+          → (maxVars < g .vars) ⊎ ((g .limit ≡ 0) ⊎ (maxChunk < g .limit))
       go (inl e) = inl (ltb-true _ _ e)
       go (inr e) = inr (rest (or-cases (eqb (g .limit) 0) (ltb maxChunk (g .limit)) e))
 
@@ -135,7 +137,8 @@ module _ (g : Given) where
   pub room-sound : room-test ≡ true → (length (g .status) < g .vars) ⊎ (length (g .log) < logLength (g .vars))
   room-sound h = go (or-cases (ltb (length (g .status)) (g .vars)) (ltb (length (g .log)) (logLength (g .vars))) h)
     where
-      go : (ltb (length (g .status)) (g .vars) ≡ true) ⊎ (ltb (length (g .log)) (logLength (g .vars)) ≡ true) → (length (g .status) < g .vars) ⊎ (length (g .log) < logLength (g .vars))
+      go : (ltb (length (g .status)) (g .vars) ≡ true) ⊎ (ltb (length (g .log)) (logLength (g .vars)) ≡ true)
+          → (length (g .status) < g .vars) ⊎ (length (g .log) < logLength (g .vars))
       go (inl e) = inl (ltb-true _ _ e)
       go (inr e) = inr (ltb-true _ _ e)
 
@@ -151,7 +154,8 @@ module _ (g : Given) where
   pub room-of : Lent g → room-test ≡ false
   room-of w = rw (le-ltb (length (g .status)) (g .vars) (w .status-fits), le-ltb (length (g .log)) (logLength (g .vars)) (w .log-fits))
 
-  pub list-false : Lent g → ltb maxEntries (length (g .entries)) ≡ false → isEnded (g .entries) ≡ true → ltb maxClauses (count isZero (g .entries)) ≡ false → Listed g
+  pub list-false : Lent g → ltb maxEntries (length (g .entries)) ≡ false
+      → isEnded (g .entries) ≡ true → ltb maxClauses (count isZero (g .entries)) ≡ false → Listed g
   list-false w a b c = record { lent = w; entries-fit = ltb-false _ _ a; ended = b; clauses-fit = ltb-false _ _ c }
 
   pub refusal-lent : Lent g → refusalOf g ≡ firstOf (listRules (g .entries) (g .vars))

@@ -37,7 +37,8 @@ upFrom i (suc n) = i ∷ upFrom (suc i) n
 abbrev pub bytes : List ℕ
 bytes = upFrom 0 256
 
-pub byte-table : (keep isBlank bytes ≡ quoted "\t\n\r ") × (keep isGap bytes ≡ quoted "\t ") × (keep isLf bytes ≡ quoted "\n") × (keep isDigit bytes ≡ quoted "0123456789") × (keep (λ b. isComment (b ∷ [])) bytes ≡ quoted "c")
+pub byte-table : (keep isBlank bytes ≡ quoted "\t\n\r ") × (keep isGap bytes ≡ quoted "\t ") × (keep isLf bytes ≡ quoted "\n")
+    × (keep isDigit bytes ≡ quoted "0123456789") × (keep (λ b. isComment (b ∷ [])) bytes ≡ quoted "c")
 byte-table = (refl, refl, refl, refl, refl)
 
 -- ---- one byte

@@ -23,7 +23,8 @@ use Rattle.rules.proofs.RunTrace.{run-ends}
 use Rattle.rules.proofs.LogLaws.{LogAt, blank-counts, first-metered, chunk-metered, log-begun, log-counts, stop-log, logged, calls-opens-le, tries-le}
 
 -- the one row of a first call that finds no model
-first-log : (k : Task) (o : Outcome) (t : ℕ) → LogOf (rowAfter (begun k []) o 0 0 0 t ∷ []) (count isFree (replicate (k .vars) 0)) (count isForced (replicate (k .vars) 0)) t
+first-log : (k : Task) (o : Outcome) (t : ℕ)
+    → LogOf (rowAfter (begun k []) o 0 0 0 t ∷ []) (count isFree (replicate (k .vars) 0)) (count isForced (replicate (k .vars) 0)) t
 first-log k o t =
     let (a, b, z) = blank-counts (k .vars) in
     log-counts (sym a) (sym b) (omega arith) (log-begun (rowAfter (begun k []) o 0 0 0 t) refl)

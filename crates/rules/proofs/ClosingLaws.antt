@@ -27,7 +27,8 @@ use Rattle.rules.specs.Models.{Extends}
 use Rattle.rules.specs.Visits.{Quiet}
 use Rattle.rules.proofs.ListLaws.{and-left, and-right}
 use Rattle.rules.proofs.MeaningLaws.{proper-assign, extends-refl, extends-trans, extends-assign, assign-extends, unsets-assign}
-pub use Rattle.rules.proofs.StateLaws.{AllFalse, OneUnset, TwoUnset, Means, means, state-unique, unit-sound, false-sound, Calm, calm-of-quiet, quiet-of-calm}
+pub use Rattle.rules.proofs.StateLaws.{AllFalse, OneUnset, TwoUnset, Means, means, state-unique}
+pub use Rattle.rules.proofs.StateLaws.{unit-sound, false-sound, Calm, calm-of-quiet, quiet-of-calm}
 
 -- ---- a round: what it makes of the values extends them, and it counts what it sets
 

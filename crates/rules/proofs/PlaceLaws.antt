@@ -18,7 +18,8 @@ use Rattle.rules.specs.Lists.{In, cut, sumOf}
 use Rattle.rules.specs.Numbers.{maxText, readPlace}
 use Rattle.rules.specs.Text.{Piece, Sizes, isEmpty, isBlank, placedFrom, tokensFrom}
 use Rattle.rules.specs.Reading.{behind}
-use Rattle.rules.specs.Refusals.{FirstLine, AtToken, Refuses, short-buffer, long-text, no-header, bad-header, large-header, bad-token, token-behind, token-over-vars, many-tokens, short-text}
+use Rattle.rules.specs.Refusals.{FirstLine, AtToken, Refuses, short-buffer, long-text, no-header, bad-header}
+use Rattle.rules.specs.Refusals.{large-header, bad-token, token-behind, token-over-vars, many-tokens, short-text}
 use Rattle.rules.proofs.ListLaws.{keep-sound}
 use Rattle.rules.proofs.CutLaws.{Cut, last, piece, cut-exists}
 use Rattle.rules.proofs.LineLaws.{first-line-sound}

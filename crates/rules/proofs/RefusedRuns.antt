@@ -21,9 +21,11 @@ use Rattle.rules.specs.Numbers.{maxClauses, maxEntries}
 use Rattle.rules.specs.Meaning.{varOf}
 use Rattle.rules.specs.Reading.{isZero}
 use Rattle.rules.specs.Answer.{Given, isEnded, isAbove, refusalOf}
-use Rattle.rules.specs.RunRefusals.{InLimits, Lent, Listed, Accepted, RunRefuses, bad-limits, short-buffer, list-long, not-ended, zero-over, entry-over-vars}
+use Rattle.rules.specs.RunRefusals.{InLimits, Lent, Listed, Accepted, RunRefuses, bad-limits}
+use Rattle.rules.specs.RunRefusals.{short-buffer, list-long, not-ended, zero-over, entry-over-vars}
 use Rattle.rules.proofs.ListLaws.{any-sound, any-complete, none-of-any, any-of-none, count-append, count-pos, count-zero, count-of-none, eqz-sound}
-use Rattle.rules.proofs.AnswerLaws.{nthIndex-at, nthIndex-split, isEnded-snoc, isEnded-last, limits-test, room-test, limits-sound, limits-complete, limits-false, limits-of, room-sound, room-complete, room-false, list-false}
+use Rattle.rules.proofs.AnswerLaws.{nthIndex-at, nthIndex-split, isEnded-snoc, isEnded-last, limits-test, room-test, limits-sound}
+use Rattle.rules.proofs.AnswerLaws.{limits-complete, limits-false, limits-of, room-sound, room-complete, room-false, list-false}
 use Rattle.rules.proofs.AnswerLaws.{refusal-lent, list-long-first, not-ended-first, zero-over-first, above-first, list-first}
 
 -- what a refusal, or none, says
@@ -37,29 +39,39 @@ zero-is : (l : ℤ) → isZero l ≡ true → l ≡ pos 0
 zero-is l h = eqz-sound l (pos 0) h
 
 module _ (g : Given) where
-  above-judged : Listed g → (b : Bool) → any (isAbove (g .vars)) (g .entries) ≡ b → Judges g (orNext b (RunAnswer.EntryOverVars (nthIndex (isAbove (g .vars)) (g .entries) 0)) none)
+  above-judged : Listed g → (b : Bool) → any (isAbove (g .vars)) (g .entries) ≡ b
+      → Judges g (orNext b (RunAnswer.EntryOverVars (nthIndex (isAbove (g .vars)) (g .entries) 0)) none)
   above-judged w false e = record { listed = w; up-to = λ l h. ltb-false _ _ (none-of-any (isAbove (g .vars)) e h) }
   above-judged w true e =
       let (x, i, t) = any-sound (isAbove (g .vars)) (g .entries) e in
       let n = nthIndex-split (isAbove (g .vars)) (g .entries) 0 (count-pos (isAbove (g .vars)) i t) in
-      rw (n .index) (entry-over-vars w (n .front) (n .this) (n .back) (n .split) (λ k h. ltb-false _ _ (none-of-any (isAbove (g .vars)) (count-zero (isAbove (g .vars)) (n .front) (n .before)) h)) (ltb-true _ _ (n .passes)))
+      rw (n .index)
+      (entry-over-vars w (n .front) (n .this) (n .back) (n .split)
+      (λ k h. ltb-false _ _ (none-of-any (isAbove (g .vars)) (count-zero (isAbove (g .vars)) (n .front) (n .before)) h)) (ltb-true _ _ (n .passes)))
 
-  zeros-judged : Lent g → ltb maxEntries (length (g .entries)) ≡ false → isEnded (g .entries) ≡ true → (b : Bool) → ltb maxClauses (count isZero (g .entries)) ≡ b → (rest : Option RunAnswer) → (Listed g → Judges g rest) → Judges g (orNext b (RunAnswer.BadList (nthIndex isZero (g .entries) maxClauses)) rest)
+  zeros-judged : Lent g → ltb maxEntries (length (g .entries)) ≡ false → isEnded (g .entries) ≡ true → (b : Bool)
+      → ltb maxClauses (count isZero (g .entries)) ≡ b → (rest : Option RunAnswer) → (Listed g → Judges g rest)
+      → Judges g (orNext b (RunAnswer.BadList (nthIndex isZero (g .entries) maxClauses)) rest)
   zeros-judged w s d false e rest f = f (list-false g w s d e)
   zeros-judged w s d true e rest f =
       let n = nthIndex-split isZero (g .entries) maxClauses (ltb-true _ _ e) in
-      rw (n .index) (zero-over w (ltb-false _ _ s) d (n .front) (n .back) (n .split ∙ ap (λ (z : ℤ). n .front ++ z ∷ n .back) (zero-is (n .this) (n .passes))) (n .before))
+      rw (n .index)
+      (zero-over w (ltb-false _ _ s) d (n .front) (n .back) (n .split ∙ ap (λ (z : ℤ). n .front ++ z ∷ n .back) (zero-is (n .this) (n .passes)))
+      (n .before))
 
-  ended-judged : Lent g → ltb maxEntries (length (g .entries)) ≡ false → (b : Bool) → isEnded (g .entries) ≡ b → (rest : Option RunAnswer) → (isEnded (g .entries) ≡ true → Judges g rest) → Judges g (orNext (not b) (RunAnswer.BadList (length (g .entries))) rest)
+  ended-judged : Lent g → ltb maxEntries (length (g .entries)) ≡ false → (b : Bool) → isEnded (g .entries) ≡ b → (rest : Option RunAnswer)
+      → (isEnded (g .entries) ≡ true → Judges g rest) → Judges g (orNext (not b) (RunAnswer.BadList (length (g .entries))) rest)
   ended-judged w s true e rest f = f e
   ended-judged w s false e rest f =
       let (front, l, q, z) = isEnded-last (g .entries) e in not-ended w (ltb-false _ _ s) front l q z
 
-  long-judged : Lent g → (b : Bool) → ltb maxEntries (length (g .entries)) ≡ b → (rest : Option RunAnswer) → (ltb maxEntries (length (g .entries)) ≡ false → Judges g rest) → Judges g (orNext b (RunAnswer.BadList maxEntries) rest)
+  long-judged : Lent g → (b : Bool) → ltb maxEntries (length (g .entries)) ≡ b → (rest : Option RunAnswer)
+      → (ltb maxEntries (length (g .entries)) ≡ false → Judges g rest) → Judges g (orNext b (RunAnswer.BadList maxEntries) rest)
   long-judged w false e rest f = f e
   long-judged w true e rest f = list-long w (ltb-true _ _ e)
 
-  room-judged : InLimits g → (b : Bool) → room-test g ≡ b → (rest : Option RunAnswer) → (Lent g → Judges g rest) → Judges g (orNext b RunAnswer.ShortBuffer rest)
+  room-judged : InLimits g → (b : Bool) → room-test g ≡ b → (rest : Option RunAnswer)
+      → (Lent g → Judges g rest) → Judges g (orNext b RunAnswer.ShortBuffer rest)
   room-judged w false e rest f = f (room-false g w e)
   room-judged w true e rest f = short-buffer w (room-sound g e)
 
@@ -70,7 +82,12 @@ module _ (g : Given) where
   judged : Judges g (refusalOf g)
   unfolding refusalOf
   judged =
-      limits-judged (limits-test g) refl _ (λ a. room-judged a (room-test g) refl _ (λ b. long-judged b (ltb maxEntries (length (g .entries))) refl _ (λ c. ended-judged b c (isEnded (g .entries)) refl _ (λ d. zeros-judged b c d (ltb maxClauses (count isZero (g .entries))) refl _ (λ w. above-judged w (any (isAbove (g .vars)) (g .entries)) refl)))))
+      limits-judged (limits-test g) refl _
+      (λ a. room-judged a (room-test g) refl _
+      (λ b. long-judged b (ltb maxEntries (length (g .entries))) refl _
+      (λ c. ended-judged b c (isEnded (g .entries)) refl _
+      (λ d. zeros-judged b c d (ltb maxClauses (count isZero (g .entries))) refl _
+      (λ w. above-judged w (any (isAbove (g .vars)) (g .entries)) refl)))))
 
 -- ---- and back: a rule that holds decides every test before its own
 

@@ -47,16 +47,20 @@ forcedValue-trueByte : (l : ℤ) → forcedValue (forcedBy (trueByte l)) ≡ tru
 forcedValue-trueByte (pos n) = refl
 forcedValue-trueByte (negsuc n) = refl
 
-known-forced : {k : Task} {first : Values} {models : List Values} {ss : List ℕ} → Known k first models ss → (l : ℤ) → isForcedTo ss l → Forced (k .vars) (k .formula) l
+known-forced : {k : Task} {first : Values} {models : List Values} {ss : List ℕ}
+    → Known k first models ss → (l : ℤ) → isForcedTo ss l → Forced (k .vars) (k .formula) l
 known-forced {k} {first} {models} {ss} w l e =
     record {
       some-model = first;
       is-model = first-model-is w;
-      in-all = λ m x. eq-eqb (valueAt m (indexOf l)) (trueByte l) (w .forced (indexOf l) (rw e (forcedBy-le l)) m x ∙ ap forcedValue e ∙ forcedValue-trueByte l);
+      in-all =
+          λ m x. eq-eqb (valueAt m (indexOf l)) (trueByte l)
+          (w .forced (indexOf l) (rw e (forcedBy-le l)) m x ∙ ap forcedValue e ∙ forcedValue-trueByte l);
     }
 
 -- a witness shows that models differ
-free-of-witness : {n : ℕ} {F : List Clause} {first : Values} {models : List Values} {i : ℕ} → Model n F first → ((m : Values) → In m models → Model n F m) → Witness n F first models i → Free n F i
+free-of-witness : {n : ℕ} {F : List Clause} {first : Values} {models : List Values} {i : ℕ}
+    → Model n F first → ((m : Values) → In m models → Model n F m) → Witness n F first models i → Free n F i
 free-of-witness {first = first} x are (by-model m h d) =
     record { one = m; two = first; one-is = are m h; two-is = x; differ = d }
 free-of-witness {first = first} {i = i} x are (by-flip m h y d) =
@@ -97,7 +101,8 @@ module _ {k : Task} {first : Values} {models : List Values} {ss : List ℕ} (w :
       go : (statusAt ss (indexOf l) ≡ 1) ⊎ (2 ≤ statusAt ss (indexOf l)) → isForcedTo ss l
       go (inl e) = absurd (forced-not-free f (free-of-witness (first-model-is w) (w .models-are) (w .free (indexOf l) h e)))
       go (inr q) =
-          forcedBy-of (statusAt ss (indexOf l)) l q (w .small (indexOf l)) (sym (w .forced (indexOf l) q first (first-model-is w)) ∙ eqb-true _ (trueByte l) (f .in-all first (first-model-is w)))
+          forcedBy-of (statusAt ss (indexOf l)) l q (w .small (indexOf l))
+          (sym (w .forced (indexOf l) q first (first-model-is w)) ∙ eqb-true _ (trueByte l) (f .in-all first (first-model-is w)))
 
   free-complete : (i : ℕ) → Free (k .vars) (k .formula) i → statusAt ss i ≡ 1
   free-complete i d = go (free-or-forced (statusAt ss i) (no-open ss z i))
@@ -172,10 +177,12 @@ module _ (k : Task) (limit : 1 ≤ k .limit) where
           record { first = p .first; rest = rest; models-are = q; witness = w .free i h f; each = w .models-are }
 
   -- a settled run has no candidate left
-  settled-known : run k .answer ≡ RunAnswer.Settled → Known k (run k .progress .first) (run k .progress .models) (run k .progress .statuses) × (opens (run k .progress .statuses) ≡ 0)
+  settled-known : run k .answer ≡ RunAnswer.Settled
+      → Known k (run k .progress .first) (run k .progress .models) (run k .progress .statuses) × (opens (run k .progress .statuses) ≡ 0)
   settled-known = go (run-ends k limit)
     where
-      go : {e : Ended} → Ends k e → e .answer ≡ RunAnswer.Settled → Known k (e .progress .first) (e .progress .models) (e .progress .statuses) × (opens (e .progress .statuses) ≡ 0)
+      go : {e : Ended} → Ends k e → e .answer ≡ RunAnswer.Settled
+          → Known k (e .progress .first) (e .progress .models) (e .progress .statuses) × (opens (e .progress .statuses) ≡ 0)
       go (first-none t e) z = absurd (let y : _≡_ {A = ℕ} 0 1 = cc in omega arith)
       go (first-stopped t e) z = absurd (let y : _≡_ {A = ℕ} 0 1 = cc in omega arith)
       go (settled r o) z = (known r, o)
@@ -186,7 +193,8 @@ module _ (k : Task) (limit : 1 ≤ k .limit) where
   settled-none-open a i = no-open (run k .progress .statuses) (settled-known a .1) i
 
   -- a settled run marks a literal forced exactly if a model exists and all models contain it
-  pub settled-forced : run k .answer ≡ RunAnswer.Settled → (l : ℤ) → LitUpTo (k .vars) l → isForcedTo (run k .progress .statuses) l ↔ Forced (k .vars) (k .formula) l
+  pub settled-forced : run k .answer ≡ RunAnswer.Settled → (l : ℤ) → LitUpTo (k .vars) l
+      → isForcedTo (run k .progress .statuses) l ↔ Forced (k .vars) (k .formula) l
   settled-forced a l h = let (w, z) = settled-known a in (run-forced l h, forced-complete w z l (indexOf-lt l h))
 
   -- and a variable free exactly if models differ on it

@@ -55,10 +55,20 @@ length-refusedLine : (number place : ℕ) → number ≤ 99 → place ≤ maxTex
 length-refusedLine number place h k =
     simp length-append (omega (arith, decimal-most 2 number (omega arith) (omega arith), decimal-most 5 place (omega arith) (omega arith)))
 
-length-answerLine : (vars : ℕ) (r : Report) → vars ≤ maxVars → r .calls ≤ 257 → r .tries ≤ 1000000 → r .forced ≤ vars → r .free ≤ vars → length (answerLine vars r) ≤ 63
+length-answerLine : (vars : ℕ) (r : Report) → vars ≤ maxVars → r .calls ≤ 257
+    → r .tries ≤ 1000000 → r .forced ≤ vars → r .free ≤ vars → length (answerLine vars r) ≤ 63
 length-answerLine vars r v c t f e =
     simp length-append
-    (omega (arith, runNumber-le (r .answer), decimal-most 2 (runNumber (r .answer)) (omega arith) (omega (arith, runNumber-le (r .answer))), decimal-most 3 (r .calls) (omega arith) (omega arith), decimal-most 7 (r .tries) (omega arith) (omega arith), decimal-most 3 (r .forced) (omega arith) (omega arith), decimal-most 3 (r .free) (omega arith) (omega arith), decimal-most 3 (vars - r .forced - r .free) (omega arith) (omega arith)))
+    (omega (
+      arith,
+      runNumber-le (r .answer),
+      decimal-most 2 (runNumber (r .answer)) (omega arith) (omega (arith, runNumber-le (r .answer))),
+      decimal-most 3 (r .calls) (omega arith) (omega arith),
+      decimal-most 7 (r .tries) (omega arith) (omega arith),
+      decimal-most 3 (r .forced) (omega arith) (omega arith),
+      decimal-most 3 (r .free) (omega arith) (omega arith),
+      decimal-most 3 (vars - r .forced - r .free) (omega arith) (omega arith),
+    ))
 
 length-statusWords : (s : ℕ) → length (statusWords s) ≤ 11
 length-statusWords zero = omega arith
@@ -90,9 +100,18 @@ length-tableBy {vars} {r} {ss} b = go (b .answer-is)
     first = length-answerLine vars r (b .vars-fit) (b .calls-fit) (b .tries-fit) (b .forced-fit) (b .free-fit)
 
     all-lines : length (answerLine vars r ++ statusLines 1 ss) ≤ maxTable
-    all-lines = omega (arith, first, length-append (answerLine vars r) (statusLines 1 ss), length-statusLines 1 ss (omega (arith, b .lines, b .vars-fit)), b .lines, b .vars-fit)
+    all-lines =
+        omega (
+          arith,
+          first,
+          length-append (answerLine vars r) (statusLines 1 ss),
+          length-statusLines 1 ss (omega (arith, b .lines, b .vars-fit)),
+          b .lines,
+          b .vars-fit,
+        )
 
-    go : (r .answer ≡ RunAnswer.Settled) ⊎ ((r .answer ≡ RunAnswer.NoModel) ⊎ (r .answer ≡ RunAnswer.Stopped)) → length (tableBy (r .answer) vars r ss) ≤ maxTable
+    go : (r .answer ≡ RunAnswer.Settled) ⊎ ((r .answer ≡ RunAnswer.NoModel) ⊎ (r .answer ≡ RunAnswer.Stopped))
+        → length (tableBy (r .answer) vars r ss) ≤ maxTable
     go (inl e) = rw (ap (λ (a : RunAnswer). length (tableBy a vars r ss)) e) all-lines
     go (inr (inl e)) = rw (ap (λ (a : RunAnswer). length (tableBy a vars r ss)) e) (omega (arith, first))
     go (inr (inr e)) = rw (ap (λ (a : RunAnswer). length (tableBy a vars r ss)) e) all-lines

@@ -124,7 +124,14 @@ no-lf-joined (xs ∷ xss) h =
 no-lf-pieces : (vars : ℕ) (r : Report) → any isLf (joined (answerPieces vars r)) ≡ false
 no-lf-pieces vars r =
     no-lf-joined (answerPieces vars r)
-    (rw (no-lf-decimal (runNumber (r .answer)), no-lf-decimal (r .calls), no-lf-decimal (r .tries), no-lf-decimal (r .forced), no-lf-decimal (r .free), no-lf-decimal (vars - r .forced - r .free)))
+    (rw (
+      no-lf-decimal (runNumber (r .answer)),
+      no-lf-decimal (r .calls),
+      no-lf-decimal (r .tries),
+      no-lf-decimal (r .forced),
+      no-lf-decimal (r .free),
+      no-lf-decimal (vars - r .forced - r .free),
+    ))
 
 -- ---- the lines
 
@@ -232,9 +239,13 @@ module _ (k : Task) (limit : 1 ≤ k .limit) where
   says n = let (rest, q) = begins in rw q (answered (k .vars) (reportOfRun (run k)) rest n)
 
   -- the answers of a run are told apart by their numbers
-  says-settled : (SaysAnswer 0 table → run k .answer ≡ RunAnswer.Settled) × (SaysAnswer 20 table ↔ (run k .answer ≡ RunAnswer.NoModel)) × (run k .answer ≡ RunAnswer.Stopped → SaysAnswer 21 table)
-  says-settled =
-      (λ w. settled (run-answer k limit) (says 0 .0 w), (λ w. no-model (run-answer k limit) (says 20 .0 w), λ q. says 20 .1 (ap runNumber q)), λ q. says 21 .1 (ap runNumber q))
+  says-settled : (SaysAnswer 0 table → run k .answer ≡ RunAnswer.Settled)
+      × (SaysAnswer 20 table ↔ (run k .answer ≡ RunAnswer.NoModel)) × (run k .answer ≡ RunAnswer.Stopped → SaysAnswer 21 table)
+  says-settled = (
+    λ w. settled (run-answer k limit) (says 0 .0 w),
+    (λ w. no-model (run-answer k limit) (says 20 .0 w), λ q. says 20 .1 (ap runNumber q)),
+    λ q. says 21 .1 (ap runNumber q),
+  )
     where
       Answers : Type 0
       Answers = (run k .answer ≡ RunAnswer.Settled) ⊎ ((run k .answer ≡ RunAnswer.NoModel) ⊎ (run k .answer ≡ RunAnswer.Stopped))
@@ -253,8 +264,11 @@ module _ (k : Task) (limit : 1 ≤ k .limit) where
   line : SaysAnswer 0 table → (i : ℕ) → i < k .vars → (s : ℕ) → s ≤ 3
       → (lineAt table (suc i) ≡ decimal (suc i) ++ statusWords s) ↔ (statusAt ss i ≡ s)
   unfolding ss
-  line w i h s small =
-      (λ q. words-inj (statusAt ss i) s (run-statuses k limit .1 i) small (append-cancel-left (decimal (suc i)) _ _ (sym is ∙ q)), λ q. is ∙ ap (λ (t : ℕ). decimal (suc i) ++ statusWords t) q)
+  line w i h s small = (
+    λ q. words-inj (statusAt ss i) s (run-statuses k limit .1 i) small (append-cancel-left (decimal (suc i)) _ _ (sym is ∙ q)),
+    λ q. is ∙
+        ap (λ (t : ℕ). decimal (suc i) ++ statusWords t) q,
+  )
     where
       is : lineAt table (suc i) ≡ decimal (suc i) ++ statusWords (statusAt ss i)
       is =

@@ -3,8 +3,7 @@ use mathlib.Core.Path.{_∙_}
 use mathlib.Core.Logic.{inl, inr}
 use native.Mathlib.Omega.{arith}
 use borrow.Author.Needs.{needs}
-use Rattle.rules.specs.Answer.{given}
-use Rattle.rules.specs.RunRefusals.{InLimits, Lent, bad-limits, short-buffer}
+use Rattle.rules.specs.RunRefusals.{bad-limits, short-buffer}
 use Rattle.refusals.proofs.FoundLaws.{refused-is, lent-is}
 use Rattle.refusals.proofs.refuse.Statement.{statement}
 use Rattle.refusals.proofs.refuse.Tie as tie

@@ -1,13 +1,13 @@
 -- The proof of the cycle of calls {put_decimal}. The measure is the number: a tenth of it is less. Below 10 there is one digit; from 10
 -- on the last one stands behind those of a tenth. Assumes nothing.
-use mathlib.Core.Path.{_≡_, refl, sym, _∙_}
-use mathlib.Core.List.{List, [], _∷_, _++_}
+use mathlib.Core.Path.{sym}
+use mathlib.Core.List.{[], _∷_}
 use native.Mathlib.Omega.{arith}
 use borrow.Author.Needs.{needs}
 use Rattle.rules.specs.Plain.{decimal, digit}
 use Rattle.rules.proofs.DecimalLaws.{decimal-small, decimal-more}
 use Rattle.lines.proofs.PutLaws.{room-first, room-then, room-same, put-then, put-same}
-use Prim.Native.Nat.{ℕ, _<_, _+_, _/_, _%_}
+use Prim.Native.Nat.{ℕ, _<_, _/_, _%_}
 use borrow.Fn.Kinds.{In}
 use borrow.Fn.PlainCycle.{Measures, is, falls, and}
 use Rattle.lines.proofs.put.put_decimal.Reads as put-decimal

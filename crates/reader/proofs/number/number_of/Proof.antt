@@ -8,7 +8,8 @@ use borrow.Author.Tests.{not-true, not-false}
 use borrow.Author.Needs.{needs}
 use lib.ListN.{length, getD}
 use Rattle.rules.specs.Text.{isDigit}
-use Rattle.reader.proofs.NumberLaws.{not-number-none, not-number-long, not-number-byte, digit-low, digit-high, Digits, digits-start, digits-small, digits-step, digits-done}
+use Rattle.reader.proofs.NumberLaws.{not-number-none, not-number-long, not-number-byte, digit-low, digit-high}
+use Rattle.reader.proofs.NumberLaws.{Digits, digits-start, digits-small, digits-step, digits-done}
 use Rattle.reader.proofs.number.number_of.Statement.{statement}
 use Rattle.reader.proofs.number.number_of.Tie as tie
 

@@ -30,7 +30,8 @@ returns c =
     let at-find = then1 .before in
     let start = at-find .before .before in
     sym
-    (step-end (start .args .h) (start .args .text .now) (start .args .c) (at-find .find .result) (at-find .find .ensures) (then1 .if1 .taken) ∙ ap (λ (t : Bool). endStep t (length (start .args .text .now))) (lt-ltb _ _ (c .if2 .taken)))
+    (step-end (start .args .h) (start .args .text .now) (start .args .c) (at-find .find .result) (at-find .find .ensures) (then1 .if1 .taken) ∙
+    ap (λ (t : Bool). endStep t (length (start .args .text .now))) (lt-ltb _ _ (c .if2 .taken)))
 
 returns-2 : tie.Need-returns-2
 returns-2 c =
@@ -38,7 +39,8 @@ returns-2 c =
     let at-find = then1 .before in
     let start = at-find .before .before in
     sym
-    (step-end (start .args .h) (start .args .text .now) (start .args .c) (at-find .find .result) (at-find .find .ensures) (then1 .if1 .taken) ∙ ap (λ (t : Bool). endStep t (length (start .args .text .now))) (le-ltb _ _ (c .if2 .left)))
+    (step-end (start .args .h) (start .args .text .now) (start .args .c) (at-find .find .result) (at-find .find .ensures) (then1 .if1 .taken) ∙
+    ap (λ (t : Bool). endStep t (length (start .args .text .now))) (le-ltb _ _ (c .if2 .left)))
 
 find-requires-2 : tie.Need-find-requires-2
 find-requires-2 c κs = search needs
@@ -76,7 +78,8 @@ returns-3 c =
     let t = at-find2 .find2 in
     let there = else1 .if1 .left in
     sym
-    (step-bad (s .h) (s .text .now) (s .c) (f .result) (t .result) (f .ensures) (t .ensures) there (sym (at-token-of .token-of .ensures) ∙ c .enum-told .given .1))
+    (step-bad (s .h) (s .text .now) (s .c) (f .result) (t .result) (f .ensures) (t .ensures) there
+    (sym (at-token-of .token-of .ensures) ∙ c .enum-told .given .1))
 
 returns-4 : tie.Need-returns-4
 returns-4 c =
