@@ -26,7 +26,7 @@ use Rattle.rules.specs.Numbers.{maxVars, maxClauses, maxEntries, maxChun
 use Rattle.rules.specs.Reading.{isZero}
 use Rattle.rules.specs.Answer.{Given, logLength, isEnded, isAbove, listRules, refusalOf}
 use Rattle.rules.specs.RunRefusals.{InLimits, Lent, Listed}
-use Rattle.rules.proofs.ListLaws.{never}
+use Rattle.rules.proofs.ListLaws.{never, or-cases, or-left, or-right}
 
 -- ---- the element that passes and has n passing elements before it
 
@@ -90,14 +90,6 @@ isEnded-last (e ∷ f ∷ es) h =
 
 -- ---- the tests, one by one
 
-or-cases : (a b : Bool) → (a || b) ≡ true → (a ≡ true) ⊎ (b ≡ true)
-or-cases true b h = inl refl
-or-cases false b h = inr h
-
-or-false : (a b : Bool) → (a || b) ≡ false → (a ≡ false) × (b ≡ false)
-or-false true b h = absurd (never refl h)
-or-false false b h = (refl, h)
-
 module _ (g : Given) where
   abbrev pub limits-test : Bool
   limits-test = ltb maxVars (g .vars) || (eqb (g .limit) 0 || ltb maxChunk (g .limit))
@@ -125,10 +117,15 @@ module _ (g : Given) where
 
   pub limits-false : limits-test ≡ false → InLimits g
   limits-false h =
-      let (a, r) = or-false (ltb maxVars (g .vars)) (eqb (g .limit) 0 || ltb maxChunk (g .limit)) h in
-      let (b, c) = or-false (eqb (g .limit) 0) (ltb maxChunk (g .limit)) r in
-      let n : g .limit ≢ 0 = eqb-false _ _ b in
-      record { vars-fit = ltb-false _ _ a; limit-some = omega arith; limit-fits = ltb-false _ _ c }
+      let some = eqb (g .limit) 0 in
+      let over = ltb maxChunk (g .limit) in
+      let rest = or-right (ltb maxVars (g .vars)) (some || over) h in
+      let n : g .limit ≢ 0 = eqb-false _ _ (or-left some over rest) in
+      record {
+        vars-fit = ltb-false _ _ (or-left (ltb maxVars (g .vars)) (some || over) h);
+        limit-some = omega arith;
+        limit-fits = ltb-false _ _ (or-right some over rest);
+      }
 
   pub limits-of : InLimits g → limits-test ≡ false
   limits-of w =
@@ -148,8 +145,13 @@ module _ (g : Given) where
 
   pub room-false : InLimits g → room-test ≡ false → Lent g
   room-false w h =
-      let (a, b) = or-false (ltb (length (g .status)) (g .vars)) (ltb (length (g .log)) (logLength (g .vars))) h in
-      record { in-limits = w; status-fits = ltb-false _ _ a; log-fits = ltb-false _ _ b }
+      let short = ltb (length (g .status)) (g .vars) in
+      let short-log = ltb (length (g .log)) (logLength (g .vars)) in
+      record {
+        in-limits = w;
+        status-fits = ltb-false _ _ (or-left short short-log h);
+        log-fits = ltb-false _ _ (or-right short short-log h);
+      }
 
   pub room-of : Lent g → room-test ≡ false
   room-of w = rw (le-ltb (length (g .status)) (g .vars) (w .status-fits), le-ltb (length (g .log)) (logLength (g .vars)) (w .log-fits))

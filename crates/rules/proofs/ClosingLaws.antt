@@ -45,7 +45,7 @@ abbrev pub After : List Clause → Values → ℕ → Round → Type 0
 After cls vs n (under-way ws k) = Went cls vs n ws k
 After cls vs n at-false = Prim.Unit {0}
 
-round-at-false : (cls : List Clause) → round cls at-false ≡ at-false
+pub round-at-false : (cls : List Clause) → round cls at-false ≡ at-false
 round-at-false [] = refl
 round-at-false (cl ∷ cls) = round-at-false cls
 

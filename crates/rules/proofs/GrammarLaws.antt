@@ -24,9 +24,9 @@ use Rattle.rules.specs.Reading.{accepted, isZero, behind, judge}
 use Rattle.rules.specs.Grammar.{Before, Header, Ended, at-end, at-blank, Body, blanks, token, Text}
 use Rattle.rules.specs.Grammar.{header-only, with-body, ClausesOf, no-clause, clause, Dimacs}
 use Rattle.rules.specs.Refusals.{FirstLine, Say, nothing, one-more}
-use Rattle.rules.proofs.ListLaws.{count-append, eqz-sound}
+use Rattle.rules.proofs.ListLaws.{count-append, eqz-sound, or-left, or-right}
 use Rattle.rules.proofs.ByteLaws.{blank-sound, blank-complete, blanks-sound, blanks-complete, noZero-sound, noZero-complete}
-use Rattle.rules.proofs.CutLaws.{or-left, or-right, nil-not-append, Stops, Words, words-exists, words-unique}
+use Rattle.rules.proofs.CutLaws.{nil-not-append, Stops, Words, words-exists, words-unique}
 use Rattle.rules.proofs.TokenLaws.{word-of-token}
 use Rattle.rules.proofs.HeaderLaws.{header-not-skipped, header-no-lf}
 use Rattle.rules.proofs.LineLaws.{Front, first-line-sound, first-line-complete, drop-behind}

@@ -17,9 +17,9 @@ use Rattle.rules.specs.Lists.{any, all, keep, cut, eqs}
 use Rattle.rules.specs.Text.{isLf, isGap, isBlank, isDigit, isEmpty, isNumeral, numeral, Piece}
 use Rattle.rules.specs.Text.{isSkipped, Sizes, trimIf, trimmed, sizesIf, sizesOf, wordsOf, headerOf}
 use Rattle.rules.specs.Grammar.{NoLf, Gap, Numeral, Header, header}
-use Rattle.rules.proofs.ListLaws.{never, and-left, and-right, all-append-of, eqs-sound}
+use Rattle.rules.proofs.ListLaws.{never, and-left, and-right, all-append-of, eqs-sound, or-left, or-right}
 use Rattle.rules.proofs.ByteLaws.{blanks-sound, blanks-complete, gaps-sound, gaps-complete, noLf-sound, noLf-complete}
-use Rattle.rules.proofs.CutLaws.{or-left, or-right, Cut, last, piece, cut-exists, cut-piece, Stops, at-end, at-one}
+use Rattle.rules.proofs.CutLaws.{Cut, last, piece, cut-exists, cut-piece, Stops, at-end, at-one}
 use Rattle.rules.proofs.CutLaws.{Word, Words, none, word, placedWords, words-of-cut, words-unique, bytes-placedWords}
 use Rattle.rules.proofs.TokenLaws.{not-none, none-of-not, all-mono, any-of-all, any-append-of, any-append-right}
 use Rattle.rules.proofs.TokenLaws.{blank-of-gap, digit-above, not-gap-of-digit, not-lf-of-gap, numeral-sound}

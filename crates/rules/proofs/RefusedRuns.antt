@@ -23,7 +23,8 @@ use Rattle.rules.specs.Reading.{isZero}
 use Rattle.rules.specs.Answer.{Given, isEnded, isAbove, refusalOf}
 use Rattle.rules.specs.RunRefusals.{InLimits, Lent, Listed, Accepted, RunRefuses, bad-limits}
 use Rattle.rules.specs.RunRefusals.{short-buffer, list-long, not-ended, zero-over, entry-over-vars}
-use Rattle.rules.proofs.ListLaws.{any-sound, any-complete, none-of-any, any-of-none, count-append, count-pos, count-zero, count-of-none, eqz-sound}
+use Rattle.rules.proofs.ListLaws.{apart, any-sound, any-complete, none-of-any, any-of-none}
+use Rattle.rules.proofs.ListLaws.{count-append, count-pos, count-zero, count-of-none, eqz-sound}
 use Rattle.rules.proofs.AnswerLaws.{nthIndex-at, nthIndex-split, isEnded-snoc, isEnded-last, limits-test, room-test, limits-sound}
 use Rattle.rules.proofs.AnswerLaws.{limits-complete, limits-false, limits-of, room-sound, room-complete, room-false, list-false}
 use Rattle.rules.proofs.AnswerLaws.{refusal-lent, list-long-first, not-ended-first, zero-over-first, above-first, list-first}
@@ -133,7 +134,7 @@ pub run-refused : (g : Given) (a : RunAnswer) → (refusalOf g ≡ some a) ↔ R
 run-refused g a = (λ e. go (refusalOf g) (judged g) e, refused-complete g a)
   where
     go : (o : Option RunAnswer) → Judges g o → o ≡ some a → RunRefuses g a
-    go none w e = absurd (let y : _≡_ {A = ℕ} 0 1 = cc in omega arith)
+    go none w e = apart cc
     go (some b) w e = rw (some-inj e) at w
 
 accepted-complete : (g : Given) → Accepted g → refusalOf g ≡ none
@@ -148,4 +149,4 @@ run-accepted g = (λ e. go (refusalOf g) (judged g) e, accepted-complete g)
   where
     go : (o : Option RunAnswer) → Judges g o → o ≡ none → Accepted g
     go none w e = w
-    go (some b) w e = absurd (let y : _≡_ {A = ℕ} 0 1 = cc in omega arith)
+    go (some b) w e = apart cc

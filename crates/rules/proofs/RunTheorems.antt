@@ -25,6 +25,7 @@ use Rattle.rules.specs.Lists.{In}
 use Rattle.rules.specs.Meaning.{Clause, Values, valueAt, indexOf, trueByte, LitUpTo, Model}
 use Rattle.rules.specs.Models.{NoModel, Forced, Free, Witness, by-model, by-flip, WitnessOf}
 use Rattle.rules.specs.Run.{Task, Progress, statusAt, isForcedTo, opens, forcedBy, forcedValue, flipped, Ended, run}
+use Rattle.rules.proofs.ListLaws.{apart}
 use Rattle.rules.proofs.MeaningLaws.{blank-extends, blank-proper}
 use Rattle.rules.proofs.KnownLaws.{Known, first-model-is}
 use Rattle.rules.specs.Trace.{withLimits, Reached, first-model, next-model, next-none, Ends, first-none, first-stopped, settled, next-stopped}
@@ -183,10 +184,10 @@ module _ (k : Task) (limit : 1 ≤ k .limit) where
     where
       go : {e : Ended} → Ends k e → e .answer ≡ RunAnswer.Settled
           → Known k (e .progress .first) (e .progress .models) (e .progress .statuses) × (opens (e .progress .statuses) ≡ 0)
-      go (first-none t e) z = absurd (let y : _≡_ {A = ℕ} 0 1 = cc in omega arith)
-      go (first-stopped t e) z = absurd (let y : _≡_ {A = ℕ} 0 1 = cc in omega arith)
+      go (first-none t e) z = apart cc
+      go (first-stopped t e) z = apart cc
       go (settled r o) z = (known r, o)
-      go (next-stopped t r o e) z = absurd (let y : _≡_ {A = ℕ} 0 1 = cc in omega arith)
+      go (next-stopped t r o e) z = apart cc
 
   -- a settled run leaves no variable open
   pub settled-none-open : run k .answer ≡ RunAnswer.Settled → (i : ℕ) → statusAt (run k .progress .statuses) i ≢ 0
@@ -208,9 +209,9 @@ module _ (k : Task) (limit : 1 ≤ k .limit) where
       sound : {e : Ended} → Ends k e → e .answer ≡ RunAnswer.NoModel → NoModel (k .vars) (k .formula)
       sound (first-none t e) z =
           record { none = λ m x. first-none-of k t e .none-from m (blank-extends (k .vars) m (x .len)) (x .total) (x .all-true) }
-      sound (first-stopped t e) z = absurd (let y : _≡_ {A = ℕ} 0 1 = cc in omega arith)
-      sound (settled r o) z = absurd (let y : _≡_ {A = ℕ} 0 1 = cc in omega arith)
-      sound (next-stopped t r o e) z = absurd (let y : _≡_ {A = ℕ} 0 1 = cc in omega arith)
+      sound (first-stopped t e) z = apart cc
+      sound (settled r o) z = apart cc
+      sound (next-stopped t r o e) z = apart cc
 
       complete : {e : Ended} → Ends k e → e .answer ≢ RunAnswer.Stopped → NoModel (k .vars) (k .formula) → e .answer ≡ RunAnswer.NoModel
       complete (first-none t e) z f = refl

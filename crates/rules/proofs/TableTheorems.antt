@@ -38,8 +38,8 @@ use Rattle.rules.specs.Answer.{refusalOf, reportOfRun, reportOf, statusA
 use Rattle.rules.specs.Printed.{answerWord, callsWord, triesWord, forcedWord, freeWord, openWord, onWord, offWord}
 use Rattle.rules.specs.Printed.{refusedLine, answerLine, statusWords, statusLines, tableBy, tableOfRun, tableGiven, tableOfJudged, tableOf}
 use Rattle.rules.specs.Tables.{lineAt, SaysAnswer, tableTask}
-use Rattle.rules.proofs.ListLaws.{any-append}
-use Rattle.rules.proofs.CutLaws.{or-left, or-right, cut-piece}
+use Rattle.rules.proofs.ListLaws.{any-append, or-left, or-right}
+use Rattle.rules.proofs.CutLaws.{cut-piece}
 use Rattle.rules.proofs.TokenLaws.{any-of-all, digit-above}
 use Rattle.rules.proofs.GrammarLaws.{accepted-complete}
 use Rattle.rules.proofs.RefusalLaws.{refusal-complete}

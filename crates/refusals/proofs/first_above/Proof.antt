@@ -7,7 +7,7 @@ use borrow.Author.Tests.{lt-ltb, le-ltb}
 use lib.IntN.{ℤ, pos}
 use lib.ListN.{length, getD}
 use Rattle.rules.specs.Meaning.{varOf}
-use Rattle.formula.proofs.SignedLaws.{toZ-ofZ-at}
+use Rattle.rules.proofs.BitLaws.{toZ-ofZ-at}
 use Rattle.rules.specs.Answer.{isAbove}
 use Rattle.refusals.proofs.RefuseLaws.{Seek, seek-start, seek-pass, seek-found, seek-done}
 use Rattle.refusals.proofs.first_above.Statement.{statement}

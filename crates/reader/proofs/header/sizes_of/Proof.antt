@@ -6,21 +6,27 @@ use Rattle.reader.proofs.NumberLaws.{number-bad, number-good}
 use Rattle.reader.proofs.header.sizes_of.Statement.{statement}
 use Rattle.reader.proofs.header.sizes_of.Tie as tie
 
-is-p-requires : tie.Need-is-p-requires
-is-p-requires c κs = search needs
+slice-aggregate-is-word : tie.Need-slice-aggregate-is-word
+slice-aggregate-is-word c = search needs
+
+is-word-requires : tie.Need-is-word-requires
+is-word-requires c κs = search needs
 
 returns : tie.Need-returns
-returns c = rw (sym (c .before .is-p .ensures) ∙ not-true _ (c .if1 .taken))
+returns c = rw (sym (c .before .is-word .ensures) ∙ not-true _ (c .if1 .taken))
 
-is-cnf-requires : tie.Need-is-cnf-requires
-is-cnf-requires c κs = search needs
+slice-aggregate-is-word-2 : tie.Need-slice-aggregate-is-word-2
+slice-aggregate-is-word-2 c = search needs
+
+is-word-requires-2 : tie.Need-is-word-requires-2
+is-word-requires-2 c κs = search needs
 
 returns-2 : tie.Need-returns-2
 returns-2 c =
-    let else1 = c .before .before in
-    let at-is-p = else1 .before in
+    let else1 = c .before .before .before in
+    let at-p = else1 .before in
     rw
-    (sym (at-is-p .is-p .ensures) ∙ not-false _ (else1 .if1 .left), sym (c .before .is-cnf .ensures) ∙ not-true _ (c .if2 .taken))
+    (sym (at-p .is-word .ensures) ∙ not-false _ (else1 .if1 .left), sym (c .before .is-word2 .ensures) ∙ not-true _ (c .if2 .taken))
 
 number-of-requires : tie.Need-number-of-requires
 number-of-requires c κs = search needs
@@ -35,13 +41,13 @@ returns-3 : tie.Need-returns-3
 returns-3 c =
     let at-number-of = c .before .before in
     let else2 = at-number-of .before in
-    let at-is-cnf = else2 .before in
-    let else1 = at-is-cnf .before in
-    let at-is-p = else1 .before in
-    let start = at-is-p .before .before .before .before .before in
+    let at-cnf = else2 .before in
+    let else1 = at-cnf .before .before in
+    let at-p = else1 .before in
+    let start = at-p .before .before .before .before .before .before in
     rw (
-      sym (at-is-p .is-p .ensures) ∙ not-false _ (else1 .if1 .left),
-      sym (at-is-cnf .is-cnf .ensures) ∙ not-false _ (else2 .if2 .left),
+      sym (at-p .is-word .ensures) ∙ not-false _ (else1 .if1 .left),
+      sym (at-cnf .is-word2 .ensures) ∙ not-false _ (else2 .if2 .left),
       number-bad (start .args .vars .now) (sym (at-number-of .number-of .ensures) ∙ c .enum-told .given .1),
     )
 
@@ -60,14 +66,14 @@ returns-4 c =
     let at-v = at-number-of2 .before .before in
     let at-number-of = at-v .before .before in
     let else2 = at-number-of .before in
-    let at-is-cnf = else2 .before in
-    let else1 = at-is-cnf .before in
-    let at-is-p = else1 .before in
-    let start = at-is-p .before .before .before .before .before in
+    let at-cnf = else2 .before in
+    let else1 = at-cnf .before .before in
+    let at-p = else1 .before in
+    let start = at-p .before .before .before .before .before .before in
     let v = number-good (start .args .vars .now) (at-v .v .given .0 .0) (sym (at-number-of .number-of .ensures) ∙ at-v .v .given .1) in
     rw (
-      sym (at-is-p .is-p .ensures) ∙ not-false _ (else1 .if1 .left),
-      sym (at-is-cnf .is-cnf .ensures) ∙ not-false _ (else2 .if2 .left),
+      sym (at-p .is-word .ensures) ∙ not-false _ (else1 .if1 .left),
+      sym (at-cnf .is-word2 .ensures) ∙ not-false _ (else2 .if2 .left),
       v .0,
       number-bad (start .args .clauses .now) (sym (at-number-of2 .number-of2 .ensures) ∙ c .enum-told2 .given .1),
     )
@@ -78,15 +84,15 @@ returns-5 c =
     let at-v = at-number-of2 .before .before in
     let at-number-of = at-v .before .before in
     let else2 = at-number-of .before in
-    let at-is-cnf = else2 .before in
-    let else1 = at-is-cnf .before in
-    let at-is-p = else1 .before in
-    let start = at-is-p .before .before .before .before .before in
+    let at-cnf = else2 .before in
+    let else1 = at-cnf .before .before in
+    let at-p = else1 .before in
+    let start = at-p .before .before .before .before .before .before in
     let v = number-good (start .args .vars .now) (at-v .v .given .0 .0) (sym (at-number-of .number-of .ensures) ∙ at-v .v .given .1) in
     let n = number-good (start .args .clauses .now) (c .before .c .given .0 .0) (sym (at-number-of2 .number-of2 .ensures) ∙ c .before .c .given .1) in
     rw (
-      sym (at-is-p .is-p .ensures) ∙ not-false _ (else1 .if1 .left),
-      sym (at-is-cnf .is-cnf .ensures) ∙ not-false _ (else2 .if2 .left),
+      sym (at-p .is-word .ensures) ∙ not-false _ (else1 .if1 .left),
+      sym (at-cnf .is-word2 .ensures) ∙ not-false _ (else2 .if2 .left),
       v .0,
       n .0,
       v .1,
@@ -97,9 +103,11 @@ pub sizes-of-spec : {M : Type 1} → statement M
 sizes-of-spec =
     tie.close
     (tie.spec
-    is-p-requires
+    slice-aggregate-is-word
+    is-word-requires
     returns
-    is-cnf-requires
+    slice-aggregate-is-word-2
+    is-word-requires-2
     returns-2
     number-of-requires
     enum-known-v
