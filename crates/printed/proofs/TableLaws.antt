@@ -33,7 +33,7 @@ use Rattle.rules.specs.Refusals.{Refuses, short-buffer, long-text, no-header, b
 use Rattle.rules.specs.Refusals.{bad-token, token-behind, token-over-vars, many-tokens, short-text}
 use Rattle.rules.specs.RunRefusals.{Accepted}
 use Rattle.rules.specs.Printed.{refusedLine, answerLine, statusLines, tableBy, tableOfRun, tableGiven}
-use Rattle.rules.specs.Printed.{tableOfJudged, tableOf, maxTable, countIfRoom, bytesIfRoom, Prints}
+use Rattle.rules.specs.Printed.{tableBudget, tableChunk, tableOfJudged, tableOf, maxTable, countIfRoom, bytesIfRoom, Prints}
 use Rattle.rules.proofs.RunTheorems.{run-answer, run-statuses}
 use Rattle.rules.proofs.RefusedRuns.{run-accepted}
 use Rattle.rules.proofs.BufferTheorems.{length-statusAfter}
@@ -95,7 +95,7 @@ run-status g w e =
 module _ {vars : ℕ} {es : List ℤ} {status log : List ℕ} (w : Accepted (listGiven vars es)) (z : Sized vars status log) where
   -- the run with these buffers
   abbrev lent : Given
-  lent = given es vars 1000000 16 status log
+  lent = given es vars tableBudget tableChunk status log
 
   lent-accepted : Accepted lent
   lent-accepted =

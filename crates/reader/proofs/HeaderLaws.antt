@@ -92,7 +92,7 @@ module _ {word wanted : List ℕ} {i : ℕ} (long : length word ≡ length wante
   pub same-done : length word ≤ i → true ≡ eqs word wanted
   same-done h =
       let q : eqs (drop i word) (drop i wanted) ≡ true =
-          rw (drop-of-length-le word {i = i} h, drop-of-length-le wanted {i = i} (omega (arith, long))) in
+      rw (drop-of-length-le word {i = i} h, drop-of-length-le wanted {i = i} (omega (arith, long))) in
       sym (sym (w .rest) ∙ q)
 
 -- ---- words from gap to gap

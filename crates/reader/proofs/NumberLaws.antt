@@ -7,19 +7,19 @@
 --
 -- Assumes nothing.
 use mathlib.Core.Path.{_≡_, refl}
-use mathlib.Core.Bool.{Bool, true, false, _&&_, and-false}
+use mathlib.Core.Bool.{Bool, true, false, and-false}
 use mathlib.Core.List.{List, [], _∷_}
 use Prim.Native.Nat.{ℕ, _+_, _-_, _*_, _^_, _≤_, _<_}
 use native.Mathlib.Nat.{pow-succ', pow-le-pow-right}
 use native.Mathlib.Omega.{arith}
 use native.Mathlib.Numerals.{add-one}
-use borrow.Author.Tests.{le-leb, lt-leb, leb-true}
+use borrow.Author.Tests.{le-leb, lt-leb}
 use lib.Dec.{leb}
 use lib.ListN.{length, getD, drop, drop-of-length-le}
 use lib.Seq.{drop-cons}
 use Rattle.rules.specs.Lists.{all}
 use Rattle.rules.specs.Text.{isDigit, isNumeral, valueFrom, numeral}
-use Rattle.rules.proofs.ListLaws.{apart, and-left, and-right}
+use Rattle.rules.proofs.ListLaws.{apart}
 use Rattle.rules.proofs.TokenLaws.{digit-above, digit-most}
 use Rattle.reader.specs.declared.number.Number.{Number}
 use Rattle.reader.specs.Words.{numberIf, numberOf}

@@ -22,7 +22,6 @@ use lib.ListN.{length, take, drop}
 use lib.Seq.{length-take-le}
 use mir.Syntax.{w32}
 use mir.Val.{SFits, toZ, ofZ}
-use mir.Facts.{toZ-ofZ}
 use Rattle.rules.specs.declared.ReadAnswer.{ReadAnswer}
 use Rattle.rules.specs.Lists.{firstOf, orNext, countIf}
 use Rattle.rules.specs.Numbers.{maxEntries}

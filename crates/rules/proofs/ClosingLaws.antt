@@ -2,6 +2,7 @@
 -- for models, what it ends in, and the page's own words for it, "rounds until one sets nothing, or stops", as an equation without
 -- a bound on the rounds.
 --
+--   round-at-false                a round that has stopped stays so
 --   Went, After, round-after      what a round makes of the values extends them, and it counts what it sets
 --   closing-rec                   an induction for closing: a round that stops, that sets nothing, or that sets something first
 --   closeIn-enough                more rounds than there are unset variables change nothing

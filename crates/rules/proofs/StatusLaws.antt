@@ -6,9 +6,9 @@
 --   length-candidates, candidate-open     a candidate is the first model's literal of an open variable
 --   literalAt-true, literalAt-negated     the literal at an index, and its negation
 --   ForcedMore, forceFirst-counts n open variables become forced, and nothing else changes
---   length-forceFirst, forceFirst-at      what an index holds then
+--   length-forceFirst, ForcedCases, forceFirst-at     what an index holds then
 --   ForcedIn, chunk-forced        each literal of the chunk was open, and is forced then
---   length-forcedValues, forcedValues-at, forcedValue-forcedBy, forcedValue-le     the values of the forced literals
+--   length-forcedValues, SetCases, forcedValues-at, forcedValue-forcedBy, forcedValue-le     the values of the forced literals
 --
 -- Assumes nothing.
 use mathlib.Core.Path.{_≡_, refl, ap}

@@ -17,7 +17,8 @@ use Rattle.rules.specs.Reading.{Judged, accepted, refused, judge}
 use Rattle.rules.specs.Run.{run}
 use Rattle.rules.specs.Answer.{Given, taskOf, isFree, isForced, reportOf, statusAfter}
 use Rattle.rules.specs.RunRefusals.{Accepted}
-use Rattle.rules.specs.Printed.{refusedLine, answerLine, statusWords, statusLines, tableBy, tableGiven, tableOfJudged, tableOf, maxTable}
+use Rattle.rules.specs.Printed.{refusedLine, answerLine, statusWords, statusLines, tableBy}
+use Rattle.rules.specs.Printed.{tableBudget, tableGiven, tableOfJudged, tableOf, maxTable}
 use Rattle.rules.proofs.ListLaws.{count-le}
 use Rattle.rules.proofs.DecimalLaws.{decimal-most}
 use Rattle.rules.proofs.RefusalLaws.{refusal-sound}
@@ -56,7 +57,7 @@ length-refusedLine number place h k =
     simp length-append (omega (arith, decimal-most 2 number (omega arith) (omega arith), decimal-most 5 place (omega arith) (omega arith)))
 
 length-answerLine : (vars : ℕ) (r : Report) → vars ≤ maxVars → r .calls ≤ 257
-    → r .tries ≤ 1000000 → r .forced ≤ vars → r .free ≤ vars → length (answerLine vars r) ≤ 63
+    → r .tries ≤ tableBudget → r .forced ≤ vars → r .free ≤ vars → length (answerLine vars r) ≤ 63
 length-answerLine vars r v c t f e =
     simp length-append
     (omega (
@@ -87,7 +88,7 @@ length-statusLines v (s ∷ ss) h =
 record Bounded (vars : ℕ) (r : Report) (ss : List ℕ) : Type 0 where
   vars-fit : vars ≤ maxVars
   calls-fit : r .calls ≤ 257
-  tries-fit : r .tries ≤ 1000000
+  tries-fit : r .tries ≤ tableBudget
   forced-fit : r .forced ≤ vars
   free-fit : r .free ≤ vars
   lines : length ss ≡ vars
@@ -116,7 +117,7 @@ length-tableBy {vars} {r} {ss} b = go (b .answer-is)
     go (inr (inl e)) = rw (ap (λ (a : RunAnswer). length (tableBy a vars r ss)) e) (omega (arith, first))
     go (inr (inr e)) = rw (ap (λ (a : RunAnswer). length (tableBy a vars r ss)) e) all-lines
 
-run-bounded : (g : Given) → Accepted g → g .budget ≤ 1000000 → length (g .status) ≡ g .vars → Bounded (g .vars) (reportOf g) (statusAfter g)
+run-bounded : (g : Given) → Accepted g → g .budget ≤ tableBudget → length (g .status) ≡ g .vars → Bounded (g .vars) (reportOf g) (statusAfter g)
 unfolding reportOf
 run-bounded g w b l =
     let limit = w .listed .lent .in-limits .limit-some in
