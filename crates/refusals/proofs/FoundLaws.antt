@@ -6,13 +6,12 @@
 --
 -- Assumes nothing.
 use mathlib.Core.Path.{_≡_, sym, ap}
-use mathlib.Core.Bool.{Bool, true, false}
-use mathlib.Core.List.{List, _∷_}
+use mathlib.Core.Bool.{true, false}
+use mathlib.Core.List.{List}
 use Prim.Native.Nat.{ℕ, _≤_, _<_}
 use native.Mathlib.Omega.{arith}
-use native.Mathlib.Decide.{decLe}
 use lib.IntN.{ℤ}
-use lib.ListN.{length, length-append}
+use lib.ListN.{length}
 use Rattle.rules.specs.declared.RunAnswer.{RunAnswer}
 use Rattle.rules.specs.Lists.{count, nthIndex, firstOf}
 use Rattle.rules.specs.Numbers.{maxClauses, maxEntries}
@@ -20,13 +19,12 @@ use Rattle.rules.specs.Reading.{isZero}
 use Rattle.rules.specs.Answer.{Given, isEnded, isAbove, listRules, refusalOf}
 use Rattle.rules.specs.RunRefusals.{Lent, RunRefuses}
 use Rattle.rules.proofs.ListLaws.{any-of-count, count-zero}
-use Rattle.rules.proofs.AnswerLaws.{nthIndex-split, refusal-lent}
+use Rattle.rules.proofs.AnswerLaws.{nthIndex-below, nthIndex-above, refusal-lent}
 use Rattle.rules.proofs.AnswerLaws.{list-long-first, not-ended-first, zero-over-first, above-first, list-first}
 use Rattle.rules.proofs.RefusedRuns.{run-refused}
 use Rattle.refusals.specs.declared.Refusal.{Refusal}
 use Rattle.refusals.specs.declared.Refusal.the-variants as refusal
 use Rattle.refusals.specs.Refuse.{found}
-use Rattle.refusals.proofs.RefuseLaws.{nthIndex-none}
 
 pub refused-is : (g : Given) {a : RunAnswer} → RunRefuses g a → refusal.Refused a ≡ found (refusalOf g)
 refused-is g {a} r = ap found (sym (run-refused g a .1 r))
@@ -34,25 +32,6 @@ refused-is g {a} r = ap found (sym (run-refused g a .1 r))
 -- where 10 and 1 are not to be given, the list's refusal is the run's
 pub lent-is : (g : Given) → Lent g → found (firstOf (listRules (g .entries) (g .vars))) ≡ found (refusalOf g)
 lent-is g w = ap found (sym (refusal-lent g w))
-
--- ---- the nth entry that passes
-
--- an index below the length is that of such an entry; the length says that too few pass
-nth-below : (p : ℤ → Bool) (es : List ℤ) (n : ℕ) → nthIndex p es n < length es → n < count p es
-nth-below p es n h = go (decLe (count p es) n)
-  where
-    go : Dec (count p es ≤ n) → n < count p es
-    go (yes l) = absurd (omega (arith, nthIndex-none p es n l))
-    go (no l) = omega arith
-
-nth-above : (p : ℤ → Bool) (es : List ℤ) (n : ℕ) → length es ≤ nthIndex p es n → count p es ≤ n
-nth-above p es n h = go (decLe (count p es) n)
-  where
-    go : Dec (count p es ≤ n) → count p es ≤ n
-    go (yes l) = l
-    go (no l) =
-        let w = nthIndex-split p es n (omega arith) in
-        absurd (omega (arith, w .index, ap length (w .split), length-append (w .front) (w .this ∷ w .back)))
 
 -- ---- the list
 
@@ -71,7 +50,7 @@ module _ (es : List ℤ) (vars : ℕ) where
     module _ (ended : isEnded es ≡ true) where
       pub zero-over-found : nthIndex isZero es maxClauses < length es
           → refusal.Refused (RunAnswer.BadList (nthIndex isZero es maxClauses)) ≡ listFound
-      zero-over-found h = ap found (sym (zero-over-first es vars short ended (nth-below isZero es maxClauses h)))
+      zero-over-found h = ap found (sym (zero-over-first es vars short ended (nthIndex-below isZero es maxClauses h)))
 
       module _ (few : length es ≤ nthIndex isZero es maxClauses) where
         pub above-found : nthIndex (isAbove vars) es 0 < length es
@@ -79,13 +58,13 @@ module _ (es : List ℤ) (vars : ℕ) where
         above-found h =
             ap found
             (sym
-            (above-first es vars short ended (nth-above isZero es maxClauses few)
-            (any-of-count (isAbove vars) es (nth-below (isAbove vars) es 0 h))))
+            (above-first es vars short ended (nthIndex-above isZero es maxClauses few)
+            (any-of-count (isAbove vars) es (nthIndex-below (isAbove vars) es 0 h))))
 
         pub list-found : length es ≤ nthIndex (isAbove vars) es 0 → refusal.Accepted ≡ listFound
         list-found h =
-            let z : count (isAbove vars) es ≤ 0 = nth-above (isAbove vars) es 0 h in
+            let z : count (isAbove vars) es ≤ 0 = nthIndex-above (isAbove vars) es 0 h in
             ap found
             (sym
-            (list-first es vars short ended (nth-above isZero es maxClauses few)
+            (list-first es vars short ended (nthIndex-above isZero es maxClauses few)
             (count-zero (isAbove vars) es (omega arith))))

@@ -1,7 +1,6 @@
 -- The laws of `refuse`: the loops that look for an entry, and the last entry.
 --
 --   Seek, seek-start, seek-pass, seek-count, seek-found, seek-done     the loop that looks for the entry that passes as the nth one
---   nthIndex-none     where too few pass, the index is the length
 --   isZero-bits, isZero-same, isZero-other     an entry is 0 if its bits are
 --   isEnded-empty, isEnded-read     an empty list, and the last entry, as code reads it
 --
@@ -21,7 +20,7 @@ use lib.Seq.{drop-cons}
 use mir.Syntax.{w32}
 use mir.Val.{ofZ}
 use borrow.Author.Tests.{eqb-true, eq-eqb}
-use Rattle.rules.specs.Lists.{count, countIf, indexIf, nthIndex}
+use Rattle.rules.specs.Lists.{indexIf, nthIndex}
 use Rattle.rules.specs.Reading.{isZero}
 use Rattle.rules.specs.Answer.{isEnded}
 use Rattle.rules.proofs.ListLaws.{same-test, eqz-sound, eqz-complete, eqz-other}
@@ -64,16 +63,6 @@ module _ {p : ℤ → Bool} {es : List ℤ} {n left i : ℕ} (w : Seek p es n le
   seek-done h =
       let q : nthIndex p (drop i es) left ≡ 0 = ap (λ (xs : List ℤ). nthIndex p xs left) (drop-of-length-le es {i = i} h) in
       omega (arith, w .same)
-
-pub nthIndex-none : (p : ℤ → Bool) (es : List ℤ) (n : ℕ) → count p es ≤ n → nthIndex p es n ≡ length es
-nthIndex-none p [] n h = refl
-nthIndex-none p (e ∷ es) n h = go (p e) n h (λ k l. nthIndex-none p es k l)
-  where
-    go : (b : Bool) (n : ℕ) → countIf b (count p es) ≤ n → ((k : ℕ) → count p es ≤ k → nthIndex p es k ≡ length es)
-        → indexIf b n (λ k. nthIndex p es k) ≡ suc (length es)
-    go true zero h ih = absurd (omega arith)
-    go true (suc n) h ih = ap suc (ih n (omega arith))
-    go false n h ih = ap suc (ih n h)
 
 -- ---- an entry's bits
 

@@ -1,6 +1,7 @@
 -- The laws of specs/Answer: the tests by which a run is refused, each against what the table of docs/RULES.md says.
 --
 --   Nth, nthIndex-split, nthIndex-at      the element at nthIndex, and back
+--   nthIndex-none, nthIndex-below, nthIndex-above     how many pass, by the index
 --   isEnded-snoc, isEnded-last    empty or ended by 0
 --   limits-sound, limits-complete, limits-false, limits-of     the test of 10, both ways
 --   room-sound, room-complete, room-false, room-of     the test of 1, both ways
@@ -18,7 +19,7 @@ use Prim.Native.Nat.{ℕ, zero, suc, _≤_, _<_}
 use native.Mathlib.Omega.{arith}
 use lib.IntN.{ℤ}
 use lib.Dec.{eqb, ltb}
-use lib.ListN.{length}
+use lib.ListN.{length, length-append}
 use borrow.Author.Tests.{eqb-true, eqb-false, eq-eqb, ne-eqb, ltb-true, ltb-false, lt-ltb, le-ltb}
 use Rattle.rules.specs.declared.RunAnswer.{RunAnswer}
 use Rattle.rules.specs.Lists.{any, count, countIf, indexIf, nthIndex, firstOf}
@@ -26,7 +27,7 @@ use Rattle.rules.specs.Numbers.{maxVars, maxClauses, maxEntries, maxChun
 use Rattle.rules.specs.Reading.{isZero}
 use Rattle.rules.specs.Answer.{Given, logLength, isEnded, isAbove, listRules, refusalOf}
 use Rattle.rules.specs.RunRefusals.{InLimits, Lent, Listed}
-use Rattle.rules.proofs.ListLaws.{never, or-cases, or-left, or-right}
+use Rattle.rules.proofs.ListLaws.{le-or-lt, never, or-cases, or-left, or-right}
 
 -- ---- the element that passes and has n passing elements before it
 
@@ -74,6 +75,34 @@ module _ {A : Type 0} (p : A → Bool) where
           record { front = []; this = x; back = xs; split = refl; passes = e; before = refl; index = rw e }
       go true e (suc n) h ih = more true e n (ih n (omega arith))
       go false e n h ih = more false e n (ih n h)
+
+  -- where too few pass, the index is the length
+  pub nthIndex-none : (xs : List A) (n : ℕ) → count p xs ≤ n → nthIndex p xs n ≡ length xs
+  nthIndex-none [] n h = refl
+  nthIndex-none (x ∷ xs) n h = go (p x) n h (λ k l. nthIndex-none xs k l)
+    where
+      go : (b : Bool) (n : ℕ) → countIf b (count p xs) ≤ n → ((k : ℕ) → count p xs ≤ k → nthIndex p xs k ≡ length xs)
+          → indexIf b n (λ k. nthIndex p xs k) ≡ suc (length xs)
+      go true zero h ih = absurd (omega arith)
+      go true (suc n) h ih = ap suc (ih n (omega arith))
+      go false n h ih = ap suc (ih n h)
+
+  -- so an index below the length is that of such an element, and the length says that too few pass
+  pub nthIndex-below : (xs : List A) (n : ℕ) → nthIndex p xs n < length xs → n < count p xs
+  nthIndex-below xs n h = go (le-or-lt (count p xs) n)
+    where
+      go : (count p xs ≤ n) ⊎ (n < count p xs) → n < count p xs
+      go (inl l) = absurd (omega (arith, nthIndex-none xs n l))
+      go (inr l) = l
+
+  pub nthIndex-above : (xs : List A) (n : ℕ) → length xs ≤ nthIndex p xs n → count p xs ≤ n
+  nthIndex-above xs n h = go (le-or-lt (count p xs) n)
+    where
+      go : (count p xs ≤ n) ⊎ (n < count p xs) → count p xs ≤ n
+      go (inl l) = l
+      go (inr l) =
+          let w = nthIndex-split xs n l in
+          absurd (omega (arith, w .index, ap length (w .split), length-append (w .front) (w .this ∷ w .back)))
 
 -- ---- empty, or ended by 0
 
