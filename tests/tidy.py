@@ -19,10 +19,16 @@ import sys
 
 TOP = os.path.dirname(os.path.dirname(os.path.abspath(__file__)))
 WIDEST = 160
-SKIPPED = re.compile(r"""b?"(?:\\.|[^"\\])*"|b?'(?:\\.|[^'\\])'|//.*""")  # of Rattle: texts and comments
-ANTT_LINE = re.compile(r'"(?:\\.|[^"\\\n])*"|\{-.*?-\}|(?<![^\s(){}.;,@"«»])--[^\n]*', re.S)
+SKIPPED = re.compile(r"""b?"(?:\\.|[^"\\])*"|b?'(?:\\.|[^'\\])'|//.*""")  # texts and comments, in code and in antt
+ANTT_SKIPPED = re.compile(r'"(?:\\.|[^"\\\n])*"|\{-.*?-\}|(?<![^\s(){}.;,@"«»])--[^\n]*', re.S)
 USE = re.compile(r"^[ \t]*(pub )?(ghost )?use\s+([^{;\n]*?)(?:\.?(?:::)?\{([^}]*)\})?\s*(?: as (\S+?))?;?[ \t]*$", re.M)
 NAME = re.compile(r'[^\s(){}.;,@"«»]+')
+SAMPLES = (  # a text, whether it is antt, and the names that must be found in it
+    ("use A.{x, _∷_, _×_, f as g}\ny = x × g x\n", True, ["_∷_"]),
+    ("use A.B as b\nuse A.C as c\nuse D.{d,\n    e}\ny = b.d e -- d\n", True, ["c", "d"]),
+    ("ghost use A.{_+_, p};\nfn f(x: u8) -> u8\n    ensures { λ r. ⌜ p r ⌝ }\n{\n    x + 1\n}\n", False, ["_+_"]),
+    ("use a::B;\nuse a::C;\nfn f(c: C) {} // B\n", False, ["B"]),
+)
 
 
 def blank(match):
@@ -35,8 +41,7 @@ def words(text, antt):
     plain, from_it = set(), set()
     for match in (NAME if antt else re.compile(r"\w+")).finditer(text):
         start, end = match.span()
-        behind_dot = start > 0 and text[start - 1] == "." and not text[start - 2 : start - 1] == "."
-        if antt and behind_dot:
+        if antt and text[start - 1 : start] == ".":
             continue
         plain.add(match.group(0))
         if text[end : end + 1] == "." or text[end : end + 2] == "::":
@@ -64,7 +69,7 @@ def contracts(text):
 
 def unused(text, antt):
     """Line and name of each import that is not used."""
-    text = (ANTT_LINE if antt else SKIPPED).sub(blank, text)
+    text = (ANTT_SKIPPED if antt else SKIPPED).sub(blank, text)
     uses = list(USE.finditer(text))
     body = USE.sub(blank, text)
     here, here_from = words(body, antt)
@@ -90,6 +95,10 @@ def unused(text, antt):
 
 
 def main(named):
+    for text, antt, names in SAMPLES:
+        if [name for _, name in unused(text, antt)] != names:
+            print(f"tidy: of a sample {names} must be found, and {list(unused(text, antt))} is")
+            return 2
     wrong, files = 0, 0
     crates = sorted(os.listdir(os.path.join(TOP, "crates")))
     with open(os.path.join(TOP, "crates.txt"), encoding="utf-8") as listed:
