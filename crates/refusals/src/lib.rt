@@ -1,4 +1,5 @@
-// What a run refuses, in the order 10, 1, 11, 12 (docs/RULES.md, "What comes back"). Nobody has to check a list first.
+// What a run refuses, in the order 10, 1, 11, 12 (docs/RULES.md, "What comes back"), and of these 11 and 12, which are the list's own, for
+// whoever takes one. Nobody has to check a list first.
 ghost use mathlib.Core.Path.{_≡_};
 ghost use Prim.Native.Nat.{ℕ};
 ghost use Rattle.rules.specs.Lists.{nthIndex, firstOf};
