@@ -16,7 +16,7 @@ use Rattle.rules.specs.declared.Report.{Report}
 use Rattle.rules.specs.Numbers.{maxEntries, runPlace}
 use Rattle.rules.specs.Reading.{Judged, accepted, refused, judge, returned, readingOf, Reads}
 use Rattle.rules.specs.Answer.{Given, refusalOf, taskOf, reportIf, reportOf, Runs}
-use Rattle.rules.specs.RunRefusals.{RunRefuses, bad-limits, short-buffer, list-long, not-ended, zero-over, token-over-vars}
+use Rattle.rules.specs.RunRefusals.{RunRefuses, bad-limits, short-buffer, list-long, not-ended, zero-over, entry-over-vars}
 use Rattle.rules.proofs.RefusalLaws.{refusal-sound}
 use Rattle.rules.proofs.PlaceLaws.{refuses-place}
 use Rattle.rules.proofs.PrintedLaws.{table-runs}
@@ -49,7 +49,7 @@ refused-place (short-buffer w h) = omega arith
 refused-place (list-long w h) = omega arith
 refused-place (not-ended w s front l q h) = s
 refused-place (zero-over w s d front back q h) = omega (arith, s, ap length q, length-append front (pos 0 ∷ back))
-refused-place (token-over-vars w front l back q k h) = omega (arith, w .entries-fit, ap length q, length-append front (l ∷ back))
+refused-place (entry-over-vars w front l back q k h) = omega (arith, w .entries-fit, ap length q, length-append front (l ∷ back))
 
 ended-place : {a : RunAnswer} → (a ≡ RunAnswer.Settled) ⊎ ((a ≡ RunAnswer.NoModel) ⊎ (a ≡ RunAnswer.Stopped)) → runPlace a ≤ maxEntries
 ended-place (inl h) = rw h (omega arith)
@@ -70,7 +70,8 @@ runs-fit {g = g} {r = r} d = go (refusalOf g) refl (report-is d)
 
 -- ---- the promise in numbers follows from the promise of the crate below
 
-pub reads-in : {text : List ℕ} {before after : List ℤ} {r : Reading} {n : IgbReading} → Reads text before r after → n ≡ readingNumbers r → ReadsIn text before n after
+pub reads-in : {text : List ℕ} {before after : List ℤ} {r : Reading} {n : IgbReading}
+    → Reads text before r after → n ≡ readingNumbers r → ReadsIn text before n after
 reads-in d e = record { result-is = e ∙ ap readingNumbers (d .result-is); after-is = d .after-is }
 
 pub runs-in : {g : Given} {r : Report} {status log : List ℕ} {n : IgbReport} → Runs g r status log → n ≡ reportNumbers r → RunsIn g n status log

@@ -51,7 +51,8 @@ use Rattle.igbezolum.specs.Linked.{readingNumbers, reportNumbers, ReadsI
 
 -- ---- one result
 
-pub reads-in-unique : {text : List ℕ} {before : List ℤ} {n m : IgbReading} {b c : List ℤ} → ReadsIn text before n b → ReadsIn text before m c → (n ≡ m) × (b ≡ c)
+pub reads-in-unique : {text : List ℕ} {before : List ℤ} {n m : IgbReading} {b c : List ℤ}
+    → ReadsIn text before n b → ReadsIn text before m c → (n ≡ m) × (b ≡ c)
 reads-in-unique d e = (d .result-is ∙ sym (e .result-is), d .after-is ∙ sym (e .after-is))
 
 pub runs-in-unique : {g : Given} {n m : IgbReport} {s t l k : List ℕ} → RunsIn g n s l → RunsIn g m t k → (n ≡ m) × (s ≡ t) × (l ≡ k)
@@ -128,7 +129,9 @@ reading-back : (r : Reading) → readingFrom (readingNumbers r) ≡ r
 reading-back r = ap (λ (a : ReadAnswer). record { answer = a; vars = r .vars; clauses = r .clauses; entries = r .entries }) (readAnswer-numbers (r .answer))
 
 report-back : (r : Report) → reportFrom (reportNumbers r) ≡ r
-report-back r = ap (λ (a : RunAnswer). record { answer = a; calls = r .calls; tries = r .tries; forced = r .forced; free = r .free }) (runAnswer-numbers (r .answer))
+report-back r =
+    ap (λ (a : RunAnswer). record { answer = a; calls = r .calls; tries = r .tries; forced = r .forced; free = r .free })
+    (runAnswer-numbers (r .answer))
 
 pub reads-back : {text : List ℕ} {before after : List ℤ} {n : IgbReading} → ReadsIn text before n after → Reads text before (readingFrom n) after
 reads-back {text = text} {before = before} d =
@@ -156,14 +159,20 @@ module _ {text : List ℕ} {before after : List ℤ} {n : IgbReading} (w : Reads
       → ((n .answer ≡ readNumber a) × (n .place ≡ readPlace a)) ↔ Refuses (length before) text a
   read-refused-exactly a ne =
       let exactly = theorems.reader-refuses text before a ne in
-      let answer-is : readingFrom n .answer ≡ readingOf text before .answer = ap (λ (r : Reading). r .answer) (reads-back w .result-is) in
-      (λ e. exactly .0 (sym answer-is ∙ cc (e .0, e .1) ∙ readAnswer-numbers a), λ h. let q = exactly .1 h in (read-number-is ∙ ap readNumber q, read-place-is ∙ ap readPlace q))
+      let answer-is : readingFrom n .answer ≡ readingOf text before .answer = ap (λ (r : Reading). r .answer) (reads-back w .result-is) in (
+        λ e. exactly .0 (sym answer-is ∙ cc (e .0, e .1) ∙ readAnswer-numbers a),
+        λ h. let q = exactly .1 h in (read-number-is ∙ ap readNumber q, read-place-is ∙ ap readPlace q),
+      )
 
   -- the counts are zero, and the buffer is as it was after 1 and 2, cleared after 3 to 9; a longer one keeps its rest
   pub read-refused-counts : n .answer ≢ 0 → (n .vars ≡ 0) × (n .clauses ≡ 0) × (n .count ≡ 0)
   read-refused-counts ne =
-      let (v, c, k) = theorems.reader-counts text before (omega (arith, read-number-is, pos-of (n .answer) ne)) in
-      (ap (λ (m : IgbReading). m .vars) (w .result-is) ∙ v, ap (λ (m : IgbReading). m .clauses) (w .result-is) ∙ c, ap (λ (m : IgbReading). m .count) (w .result-is) ∙ k)
+      let (v, c, k) = theorems.reader-counts text before (omega (arith, read-number-is, pos-of (n .answer) ne)) in (
+        ap (λ (m : IgbReading). m .vars) (w .result-is) ∙ v,
+        ap (λ (m : IgbReading). m .clauses) (w .result-is) ∙
+            c,
+        ap (λ (m : IgbReading). m .count) (w .result-is) ∙ k,
+      )
 
   pub read-refused-kept : (n .answer ≡ 1) ⊎ (n .answer ≡ 2) → after ≡ before
   read-refused-kept h = w .after-is ∙ theorems.reader-keeps text before (rw (sym read-number-is) h)
@@ -179,15 +188,17 @@ pub record CardRead (text : List ℕ) (n : IgbReading) (after : List ℤ) : Type
   pub derived : Dimacs text (n .vars) (n .clauses) entries
   pub stands : take (n .count) after ≡ entries
 
-card-of : {text : List ℕ} {before after : List ℤ} {n : IgbReading} → ReadsIn text before n after → maxEntries ≤ length before → (s : Sizes) (es : List ℤ) → Dimacs text (s .vars) (s .clauses) es → CardRead text n after
+card-of : {text : List ℕ} {before after : List ℤ} {n : IgbReading} → ReadsIn text before n after
+    → maxEntries ≤ length before → (s : Sizes) (es : List ℤ) → Dimacs text (s .vars) (s .clauses) es → CardRead text n after
 card-of {text = text} {before = before} {after = after} {n = n} w room s es d =
     let (e, f) = read-accepts text before room s es .0 d in
-    let same : n ≡ readingNumbers (record { answer = ReadAnswer.Accepted; vars = s .vars; clauses = s .clauses; entries = length es }) = w .result-is ∙ ap readingNumbers e in
+    let same = w .result-is ∙ ap readingNumbers e in
     record {
       entries = es;
       derived = rw (ap (λ (m : IgbReading). m .vars) same, ap (λ (m : IgbReading). m .clauses) same) d;
       stands =
-          ap (λ (m : IgbReading). take (m .count) after) same ∙ ap (take (length es)) (w .after-is ∙ f ∙ append-assoc es (replicate (maxEntries - length es) (pos 0)) (drop maxEntries before)) ∙
+          ap (λ (m : IgbReading). take (m .count) after) same ∙
+          ap (take (length es)) (w .after-is ∙ f ∙ append-assoc es (replicate (maxEntries - length es) (pos 0)) (drop maxEntries before)) ∙
           take-append-seam es (replicate (maxEntries - length es) (pos 0) ++ drop maxEntries before);
     }
 
@@ -203,7 +214,8 @@ module _ {text : List ℕ} {before after : List ℤ} {n : IgbReading} (w : Reads
   read-room = read-accepted text before is-accepted .0
 
   -- with buffers that are long enough and limits that are allowed the run of what was read is not refused
-  pub card-runs : (budget limit : ℕ) (status log : List ℕ) → Lent (given (take (n .count) after) (n .vars) budget limit status log) → Accepted (given (take (n .count) after) (n .vars) budget limit status log)
+  pub card-runs : (budget limit : ℕ) (status log : List ℕ) → Lent (given (take (n .count) after) (n .vars) budget limit status log)
+      → Accepted (given (take (n .count) after) (n .vars) budget limit status log)
   card-runs budget limit status log l =
       let c = read-card in
       dimacs-runs (given (take (n .count) after) (n .vars) budget limit status log) (rw (← c .stands) at (c .derived)) l
@@ -211,8 +223,11 @@ module _ {text : List ℕ} {before after : List ℤ} {n : IgbReading} (w : Reads
 -- 0 is answered exactly if there is room and the text is one of the grammar
 pub read-exactly : {text : List ℕ} {before after : List ℤ} {n : IgbReading} → ReadsIn text before n after
     → (n .answer ≡ 0) ↔ ((maxEntries ≤ length before) × (s : Sizes) × (es : List ℤ) × Dimacs text (s .vars) (s .clauses) es)
-read-exactly {text} {before} w =
-    (λ z. read-accepted text before (is-accepted w z), λ h. let (room, s, es, d) = h in ap (λ (m : IgbReading). m .answer) (w .result-is) ∙ ap (λ (r : Reading). readNumber (r .answer)) (read-accepts text before room s es .0 d .0))
+read-exactly {text} {before} w = (
+  λ z. read-accepted text before (is-accepted w z),
+  λ h. let (room, s, es, d) = h in ap (λ (m : IgbReading). m .answer) (w .result-is) ∙
+      ap (λ (r : Reading). readNumber (r .answer)) (read-accepts text before room s es .0 d .0),
+)
 
 -- ---- what a run answers, and what it writes
 

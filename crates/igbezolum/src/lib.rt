@@ -82,7 +82,8 @@ pub extern "C" fn igb_run(
     status: &mut [u8],
     log: &mut [u32],
 ) -> IgbReport
-    ensures { λ r. ⌜ RunsIn (given (now (entries .entry)) vars budget «chunk_limit» (now (status .entry)) (now (log .entry))) r (now (status .exit)) (now (log .exit)) ⌝ }
+    ensures { λ r. ⌜ RunsIn (given (now (entries .entry)) vars budget «chunk_limit» (now (status .entry)) (now (log .entry)))
+        r (now (status .exit)) (now (log .exit)) ⌝ }
 {
     let report = backbone::run(entries, vars, budget, chunk_limit, status, log);
     report_numbers(report)

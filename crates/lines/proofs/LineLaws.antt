@@ -17,7 +17,8 @@ use lib.Seq.{drop-cons}
 use Rattle.rules.specs.declared.Report.{Report}
 use Rattle.rules.specs.Numbers.{runNumber}
 use Rattle.rules.specs.Plain.{decimal}
-use Rattle.rules.specs.Printed.{answerWord, callsWord, triesWord, forcedWord, freeWord, openWord, offWord, refusedWord, placeWord, refusedLine, answerLine, statusWords, statusLines}
+use Rattle.rules.specs.Printed.{answerWord, callsWord, triesWord, forcedWord, freeWord, openWord, offWord}
+use Rattle.rules.specs.Printed.{refusedWord, placeWord, refusedLine, answerLine, statusWords, statusLines}
 use Rattle.lines.specs.Put.{Room, Put}
 use Rattle.lines.specs.Lines.{countFields, endFields, refusedFields, statusLine}
 use Rattle.lines.proofs.PutLaws.{length-put, room-first, room-then, room-same, put-then, put-same, put-none}
@@ -31,12 +32,15 @@ refused-line number place =
     ap (λ (xs : List ℕ). xs ++ 10 ∷ []) (sym (append-assoc a placeWord (decimal place)))
 
 -- fields in threes, and all in a row
-fields-row : (a b c d e f x y z w u v n : List ℕ) → ((a ++ b) ++ ((c ++ d) ++ (e ++ f))) ++ ((x ++ y) ++ ((z ++ w) ++ ((u ++ v) ++ n))) ≡ a ++ b ++ c ++ d ++ e ++ f ++ x ++ y ++ z ++ w ++ u ++ v ++ n
+fields-row : (a b c d e f x y z w u v n : List ℕ) → ((a ++ b) ++ ((c ++ d) ++ (e ++ f))) ++ ((x ++ y) ++ ((z ++ w) ++ ((u ++ v) ++ n)))
+    ≡ a ++ b ++ c ++ d ++ e ++ f ++ x ++ y ++ z ++ w ++ u ++ v ++ n
 fields-row a b c d e f x y z w u v n = simp append-assoc refl
 
-pub answer-line : (vars : ℕ) (r : Report) → countFields (runNumber (r .answer)) (r .calls) (r .tries) ++ endFields (r .forced) (r .free) (vars - r .forced - r .free) ≡ answerLine vars r
+pub answer-line : (vars : ℕ) (r : Report)
+    → countFields (runNumber (r .answer)) (r .calls) (r .tries) ++ endFields (r .forced) (r .free) (vars - r .forced - r .free) ≡ answerLine vars r
 answer-line vars r =
-    fields-row answerWord (decimal (runNumber (r .answer))) callsWord (decimal (r .calls)) triesWord (decimal (r .tries)) forcedWord (32 ∷ decimal (r .forced)) freeWord (32 ∷ decimal (r .free)) openWord (32 ∷ decimal (vars - r .forced - r .free)) (10 ∷ [])
+    fields-row answerWord (decimal (runNumber (r .answer))) callsWord (decimal (r .calls)) triesWord (decimal (r .tries)) forcedWord
+    (32 ∷ decimal (r .forced)) freeWord (32 ∷ decimal (r .free)) openWord (32 ∷ decimal (vars - r .forced - r .free)) (10 ∷ [])
 
 -- ---- statuses
 
@@ -89,6 +93,7 @@ module _ {ss : List ℕ} {at : ℕ} {before : List ℕ} {i next : ℕ} {out : Li
         rest = λ last after q. w .rest last after (put-same (sym (lines-more ss i d h)) (put-then p q));
       }
 
-pub lining-done : {ss : List ℕ} {at : ℕ} {before : List ℕ} {i next : ℕ} {out : List ℕ} → Lining ss at before i next out → length ss ≤ i → Put at (statusLines 1 ss) before next out
+pub lining-done : {ss : List ℕ} {at : ℕ} {before : List ℕ} {i next : ℕ} {out : List ℕ}
+    → Lining ss at before i next out → length ss ≤ i → Put at (statusLines 1 ss) before next out
 lining-done {ss} {at} {before} {i} {next} {out} w h =
     w .rest next out (put-same (sym (ap (statusLines (suc i)) (drop-of-length-le ss h))) (put-none next out))

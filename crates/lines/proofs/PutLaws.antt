@@ -11,11 +11,11 @@
 --
 -- Assumes nothing.
 use mathlib.Core.Path.{_≡_, refl, sym, _∙_, ap}
-use mathlib.Core.List.{List, [], _∷_, _++_, append-nil, append-assoc}
-use Prim.Native.Nat.{ℕ, zero, suc, _+_, _-_, _≤_, _<_}
+use mathlib.Core.List.{List, [], _∷_, _++_, append-assoc}
+use Prim.Native.Nat.{ℕ, suc, _+_, _≤_, _<_}
 use native.Mathlib.Omega.{arith}
 use native.Mathlib.Numerals.{add-one}
-use lib.ListN.{length, getD, set, take, drop, length-append, length-set, length-drop, drop-of-length-le}
+use lib.ListN.{length, getD, set, drop, length-append, length-set, drop-of-length-le}
 use lib.Seq.{drop-cons, set-append-seam}
 use Rattle.lines.specs.Put.{putAt, Room, Put}
 
@@ -52,7 +52,8 @@ room-then {at} {next} {before} {after} xs ys w p =
 
 -- ---- put
 
-pub put-then : {at next last : ℕ} {before between after xs ys : List ℕ} → Put at xs before next between → Put next ys between last after → Put at (xs ++ ys) before last after
+pub put-then : {at next last : ℕ} {before between after xs ys : List ℕ} → Put at xs before next between
+    → Put next ys between last after → Put at (xs ++ ys) before last after
 put-then {at} {next} {last} {before} {between} {after} {xs} {ys} p q =
     record {
       next-is = omega (arith, p .next-is, q .next-is, length-append xs ys);
@@ -85,7 +86,8 @@ pub record Putting (word : List ℕ) (at : ℕ) (before : List ℕ) (i : ℕ) (o
 pub putting-start : (word : List ℕ) (at : ℕ) (before : List ℕ) → Putting word at before 0 before
 putting-start word at before = record { within = omega arith; len = refl; rest = ap (λ (k : ℕ). putAt before k word) (omega arith) }
 
-pub putting-step : {word : List ℕ} {at : ℕ} {before : List ℕ} {i : ℕ} {out : List ℕ} (d : ℕ) → Putting word at before i out → i < length word → Putting word at before (i + 1) (set out (at + i) (getD word i d))
+pub putting-step : {word : List ℕ} {at : ℕ} {before : List ℕ} {i : ℕ} {out : List ℕ} (d : ℕ)
+    → Putting word at before i out → i < length word → Putting word at before (i + 1) (set out (at + i) (getD word i d))
 putting-step {word} {at} {before} {i} {out} d w h =
     record {
       within = omega arith;
@@ -97,7 +99,8 @@ putting-step {word} {at} {before} {i} {out} d w h =
           w .rest;
     }
 
-pub putting-done : {word : List ℕ} {at : ℕ} {before : List ℕ} {i : ℕ} {out : List ℕ} → Putting word at before i out → length word ≤ i → Put at word before (at + i) out
+pub putting-done : {word : List ℕ} {at : ℕ} {before : List ℕ} {i : ℕ} {out : List ℕ}
+    → Putting word at before i out → length word ≤ i → Put at word before (at + i) out
 putting-done {word} {at} {before} {i} {out} w h =
     record {
       next-is = omega (arith, w .within);

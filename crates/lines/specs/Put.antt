@@ -1,7 +1,7 @@
 -- Bytes put into a buffer one behind the other, from a cursor on. Assumes nothing.
 use mathlib.Core.Path.{_≡_}
 use mathlib.Core.List.{List, [], _∷_}
-use Prim.Native.Nat.{ℕ, zero, suc, _+_, _≤_}
+use Prim.Native.Nat.{ℕ, suc, _+_, _≤_}
 use lib.ListN.{length, set}
 
 -- the buffer with the bytes at `at`, `at` + 1 and so on

@@ -1,6 +1,5 @@
 // The lines of a table (docs/RULES.md, "The printed table"), each ended by LF.
 ghost use Prim.Native.Nat.{_+_, _≤_};
-ghost use mathlib.Core.List.{List, [], _∷_, _++_};
 ghost use lib.ListN.{length};
 ghost use Rattle.rules.specs.Numbers.{maxVars};
 ghost use Rattle.rules.specs.Printed.{refusedLine, answerLine, statusWords, statusLines};

@@ -1,6 +1,5 @@
 // Bytes, words and numbers put into a buffer at a cursor: each function answers the cursor behind what it put.
-ghost use Prim.Native.Nat.{_+_};
-ghost use mathlib.Core.List.{List, [], _∷_, _++_};
+ghost use mathlib.Core.List.{[], _∷_, _++_};
 ghost use Rattle.rules.specs.Plain.{decimal};
 ghost use Rattle.lines.specs.Put.{Put, Room};
 

@@ -5,7 +5,7 @@ use libc::STDOUT_FILENO;
 // Prints the table of a text.
 // It returns nothing to rule out: tests/table.sh and the stored output of `table` and `vectors` stand in for a contract.
 pub fn write_table(text: &[u8]) {
-    let mut out = [0u8; 4096];
+    let mut out = [0u8; rules::MAX_TABLE];
     let n = printed::print(text, &mut out);
     io::write_all(STDOUT_FILENO, &out[..n]);
 }

@@ -10,10 +10,10 @@
 --
 -- Assumes nothing.
 use mathlib.Core.Path.{_≡_, refl, sym, _∙_, ap}
-use mathlib.Core.Logic.{_≢_, _⊎_, inl, inr}
+use mathlib.Core.Logic.{_≢_, inl, inr}
 use mathlib.Core.Bool.{Bool, true, false}
 use mathlib.Core.List.{List, [], _∷_, _++_, append-assoc}
-use Prim.Native.Nat.{ℕ, zero, suc, _+_, _-_, _≤_, _<_}
+use Prim.Native.Nat.{ℕ, suc, _+_, _-_, _≤_, _<_}
 use native.Mathlib.Omega.{arith}
 use lib.IntN.{ℤ, pos}
 use lib.Dec.{eqb, leb}
@@ -26,13 +26,14 @@ use Rattle.rules.specs.declared.RunAnswer.{RunAnswer}
 use Rattle.rules.specs.declared.Report.{Report}
 use Rattle.rules.specs.Lists.{count, countIf}
 use Rattle.rules.specs.Numbers.{maxEntries, readNumber, readPlace, runNumber}
-use Rattle.rules.specs.Text.{Sizes}
-use Rattle.rules.specs.Reading.{Judged, accepted, refused, judge, returned, readingOf, filled, written, entriesAfter, Reads}
+use Rattle.rules.specs.Reading.{Judged, accepted, refused, judge, returned, readingOf, written, entriesAfter, Reads}
 use Rattle.rules.specs.Run.{run}
-use Rattle.rules.specs.Answer.{Given, given, logLength, taskOf, isFree, isForced, refusalOf, reportOfRun, reportOf, statusAfter, Runs}
-use Rattle.rules.specs.Refusals.{Refuses, short-buffer, long-text, no-header, bad-header, large-header, bad-token, token-behind, token-over-vars, many-tokens, short-text}
+use Rattle.rules.specs.Answer.{Given, given, taskOf, isFree, isForced, reportOfRun, reportOf, statusAfter, Runs}
+use Rattle.rules.specs.Refusals.{Refuses, short-buffer, long-text, no-header, bad-header, large-header}
+use Rattle.rules.specs.Refusals.{bad-token, token-behind, token-over-vars, many-tokens, short-text}
 use Rattle.rules.specs.RunRefusals.{Accepted}
-use Rattle.rules.specs.Printed.{refusedLine, answerLine, statusLines, tableBy, tableOfRun, tableGiven, tableOfJudged, tableOf, maxTable, countIfRoom, bytesIfRoom, Prints}
+use Rattle.rules.specs.Printed.{refusedLine, answerLine, statusLines, tableBy, tableOfRun, tableGiven}
+use Rattle.rules.specs.Printed.{tableBudget, tableChunk, tableOfJudged, tableOf, maxTable, countIfRoom, bytesIfRoom, Prints}
 use Rattle.rules.proofs.RunTheorems.{run-answer, run-statuses}
 use Rattle.rules.proofs.RefusedRuns.{run-accepted}
 use Rattle.rules.proofs.BufferTheorems.{length-statusAfter}
@@ -40,8 +41,8 @@ use Rattle.rules.proofs.RefusalLaws.{refusal-sound}
 use Rattle.rules.proofs.PrintedLaws.{table-runs}
 use Rattle.rules.proofs.TableLaws.{length-tableOf}
 use Rattle.lines.specs.Put.{Room, Put}
-use Rattle.printed.specs.Table.{sizes, listGiven, tableOfList, ListReady, Sized, Ended, TableReady}
-use Rattle.lines.proofs.PutLaws.{putAt-front, room-first, room-same, put-same}
+use Rattle.printed.specs.Table.{listGiven, tableOfList, Sized, Ended, TableReady}
+use Rattle.lines.proofs.PutLaws.{putAt-front, room-first, room-same}
 
 -- ---- by the number of the answer
 
@@ -50,7 +51,8 @@ table-first a vars r ss (inl e) h = absurd (omega (arith, ap runNumber e, h))
 table-first a vars r ss (inr (inl e)) h = ap (λ (b : RunAnswer). tableBy b vars r ss) e
 table-first a vars r ss (inr (inr e)) h = absurd (omega (arith, ap runNumber e, h))
 
-pub table-lines : (a : RunAnswer) (vars : ℕ) (r : Report) (ss : List ℕ) → Ended a → runNumber a ≢ 20 → tableBy a vars r ss ≡ answerLine vars r ++ statusLines 1 ss
+pub table-lines : (a : RunAnswer) (vars : ℕ) (r : Report) (ss : List ℕ) → Ended a
+    → runNumber a ≢ 20 → tableBy a vars r ss ≡ answerLine vars r ++ statusLines 1 ss
 table-lines a vars r ss (inl e) h = ap (λ (b : RunAnswer). tableBy b vars r ss) e
 table-lines a vars r ss (inr (inl e)) h = absurd (h (ap runNumber e))
 table-lines a vars r ss (inr (inr e)) h = ap (λ (b : RunAnswer). tableBy b vars r ss) e
@@ -72,7 +74,8 @@ count-both : (ss : List ℕ) → count isForced ss + count isFree ss ≤ length 
 count-both [] = omega arith
 count-both (s ∷ ss) = go (leb 2 s) (eqb s 1) refl refl (count-both ss)
   where
-    go : (b c : Bool) → leb 2 s ≡ b → eqb s 1 ≡ c → count isForced ss + count isFree ss ≤ length ss → countIf b (count isForced ss) + countIf c (count isFree ss) ≤ suc (length ss)
+    go : (b c : Bool) → leb 2 s ≡ b → eqb s 1 ≡ c → count isForced ss + count isFree ss ≤ length ss
+        → countIf b (count isForced ss) + countIf c (count isFree ss) ≤ suc (length ss)
     go true true e f ih = absurd (omega (arith, leb-true 2 s e, eqb-true s 1 f))
     go true false e f ih = omega (arith, ih)
     go false true e f ih = omega (arith, ih)
@@ -92,7 +95,7 @@ run-status g w e =
 module _ {vars : ℕ} {es : List ℤ} {status log : List ℕ} (w : Accepted (listGiven vars es)) (z : Sized vars status log) where
   -- the run with these buffers
   abbrev lent : Given
-  lent = given es vars 1000000 16 status log
+  lent = given es vars tableBudget tableChunk status log
 
   lent-accepted : Accepted lent
   lent-accepted =
@@ -183,12 +186,22 @@ module _ {text : List ℕ} {before : List ℤ} {r : Reading} {after : List ℤ} 
       go : (j : Judged) → judge maxEntries text ≡ j → r ≡ returned j → after ≡ written j before → ReadList text r after
       go (refused a) q e f = absurd (never-zero (refusal-sound maxEntries text q) (sym (ap (λ (p : Reading). readNumber (p .answer)) e) ∙ h))
       go (accepted s es) q e f =
-          let front : take (r .entries) after ≡ es = ap (λ (p : Reading). take (p .entries) after) e ∙ ap (take (length es)) (f ∙ append-assoc es (replicate (maxEntries - length es) (pos 0)) (drop maxEntries before)) ∙ take-append-seam es (replicate (maxEntries - length es) (pos 0) ++ drop maxEntries before) in
-          let same : listGiven (r .vars) (take (r .entries) after) ≡ tableGiven s es = ap (λ (p : Reading). listGiven (p .vars) (take (r .entries) after)) e ∙ ap (λ (xs : List ℤ). tableGiven s xs) front in
+          let zeros = replicate (maxEntries - length es) (pos 0) in
+          let rest = drop maxEntries before in
+          let front : take (r .entries) after ≡ es =
+          ap (λ (p : Reading). take (p .entries) after) e ∙
+          ap (take (length es)) (f ∙ append-assoc es zeros rest) ∙
+          take-append-seam es (zeros ++ rest) in
+          let same : listGiven (r .vars) (take (r .entries) after) ≡ tableGiven s es =
+          ap (λ (p : Reading). listGiven (p .vars) (take (r .entries) after)) e ∙ ap (λ (xs : List ℤ). tableGiven s xs) front in
           record {
-            counted = rw (ap (λ (p : Reading). p .entries) e, f) (omega (arith, length-append (es ++ replicate (maxEntries - length es) (pos 0)) (drop maxEntries before), length-append es (replicate (maxEntries - length es) (pos 0))));
+            counted =
+                rw (ap (λ (p : Reading). p .entries) e, f)
+                (omega (arith, length-append (es ++ zeros) rest, length-append es zeros));
             runs = rw same (table-runs maxEntries text q);
-            table-is = ap tableOfJudged q ∙ sym (ap (λ (p : Reading). tableOfList (p .vars) (take (r .entries) after)) e ∙ ap (λ (xs : List ℤ). tableOfList (s .vars) xs) front);
+            table-is =
+                ap tableOfJudged q ∙
+                sym (ap (λ (p : Reading). tableOfList (p .vars) (take (r .entries) after)) e ∙ ap (λ (xs : List ℤ). tableOfList (s .vars) xs) front);
           }
 
 -- ---- the contract

@@ -9,11 +9,11 @@ use Rattle.rules.specs.declared.RunAnswer.{RunAnswer}
 use Rattle.rules.specs.declared.Report.{Report}
 use Rattle.rules.specs.Numbers.{maxVars}
 use Rattle.rules.specs.Text.{Sizes}
-use Rattle.rules.specs.Reading.{accepted}
-use Rattle.rules.specs.Answer.{Given, logLength}
+use Rattle.rules.specs.Reading.{accepted, entriesAfter}
+use Rattle.rules.specs.Answer.{Given, logLength, statusAfter, logAfter}
 use Rattle.rules.specs.RunRefusals.{Accepted}
-use Rattle.rules.specs.Printed.{tableOfRun, tableGiven, tableOfJudged}
-use Rattle.lines.specs.Put.{Room}
+use Rattle.rules.specs.Printed.{tableOfRun, tableGiven, tableOfJudged, tableOf}
+use Rattle.lines.specs.Put.{Room, Put}
 
 -- the number of clauses is not looked at
 abbrev pub sizes : ℕ → Sizes
@@ -46,3 +46,14 @@ pub record TableReady (vars : ℕ) (r : Report) (ss out : List ℕ) : Type 0 whe
   pub counted : r .forced + r .free ≤ vars
   pub vars-fit : length ss ≤ maxVars
   pub room : Room 0 (tableOfRun vars r ss) out
+
+-- the table of a list is put, and both buffers are as its run leaves them
+pub record RunPut (g : Given) (before : List ℕ) (next : ℕ) (status log after : List ℕ) : Type 0 where
+  pub put : Put 0 (tableOfList (g .vars) (g .entries)) before next after
+  pub status-is : status ≡ statusAfter g
+  pub log-is : log ≡ logAfter g
+
+-- the table of a text is put, and the entries are as its reading leaves them
+pub record TextPut (text : List ℕ) (entries : List ℤ) (before : List ℕ) (next : ℕ) (read : List ℤ) (after : List ℕ) : Type 0 where
+  pub put : Put 0 (tableOf text) before next after
+  pub entries-are : read ≡ entriesAfter text entries

@@ -9,9 +9,9 @@ mod table;
 pub fn print(text: &[u8], out: &mut [u8]) -> usize
     ensures { λ r. ⌜ Prints (now (text .entry)) (now (out .entry)) r (now (out .exit)) ⌝ }
 {
-    if out.len() < 4096 {
+    if out.len() < rules::MAX_TABLE {
         return 0;
     }
-    let mut entries = [0i32; 4096];
+    let mut entries = [0i32; rules::MAX_ENTRIES];
     table::put_text(out, text, &mut entries)
 }

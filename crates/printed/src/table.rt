@@ -2,14 +2,15 @@
 ghost use mathlib.Core.Path.{_≡_};
 ghost use lib.ListN.{length};
 ghost use Rattle.rules.specs.Numbers.{maxEntries};
-ghost use Rattle.rules.specs.Reading.{entriesAfter};
-ghost use Rattle.rules.specs.Answer.{given, statusAfter, logAfter};
-ghost use Rattle.rules.specs.Printed.{tableOf, tableOfRun};
+ghost use Rattle.rules.specs.Answer.{given};
+ghost use Rattle.rules.specs.Printed.{tableOf, tableOfRun, tableBudget, tableChunk};
 ghost use Rattle.lines.specs.Put.{Put, Room};
-ghost use Rattle.printed.specs.Table.{tableOfList, ListReady, Sized, TableReady};
+ghost use Rattle.printed.specs.Table.{tableOfList, ListReady, Sized, TableReady, RunPut, TextPut};
 use lines::line::put_answer;
 use lines::line::put_lines;
 use lines::line::put_refused;
+use rules::TABLE_BUDGET;
+use rules::TABLE_CHUNK;
 use rules::numbers::read_number;
 use rules::numbers::read_place;
 use rules::numbers::run_number;
@@ -35,9 +36,10 @@ fn put_table(out: &mut [u8], vars: u32, report: rules::Report, status: &[u8]) ->
 // Required of: put_list, with buffers of just the size.
 fn put_run(out: &mut [u8], entries: &[i32], vars: u32, status: &mut [u8], log: &mut [u32]) -> usize
     requires { ⌜ ListReady vars (now entries) (now out) × Sized vars (now status) (now log) ⌝ }
-    ensures { λ r. ⌜ Put 0 (tableOfList vars (now (entries .entry))) (now (out .entry)) r (now (out .exit)) × (now (status .exit) ≡ statusAfter (given (now (entries .entry)) vars 1000000 16 (now (status .entry)) (now (log .entry)))) × (now (log .exit) ≡ logAfter (given (now (entries .entry)) vars 1000000 16 (now (status .entry)) (now (log .entry)))) ⌝ }
+    ensures { λ r. ⌜ RunPut (given (now (entries .entry)) vars tableBudget tableChunk (now (status .entry)) (now (log .entry)))
+        (now (out .entry)) r (now (status .exit)) (now (log .exit)) (now (out .exit)) ⌝ }
 {
-    let report = backbone::run(entries, vars, 1000000, 16, status, log);
+    let report = backbone::run(entries, vars, TABLE_BUDGET, TABLE_CHUNK, status, log);
     put_table(out, vars, report, status)
 }
 
@@ -49,8 +51,8 @@ fn put_list(out: &mut [u8], entries: &[i32], vars: u32) -> usize
     ensures { λ r. ⌜ Put 0 (tableOfList vars (now (entries .entry))) (now (out .entry)) r (now (out .exit)) ⌝ }
 {
     let n = vars as usize;
-    let mut status = [0u8; 256];
-    let mut log = [0u32; 1542];
+    let mut status = [0u8; rules::MAX_VARS as usize];
+    let mut log = [0u32; rules::MAX_LOG];
     put_run(
         out,
         entries,
@@ -65,7 +67,7 @@ fn put_list(out: &mut [u8], entries: &[i32], vars: u32) -> usize
 // Required of: print, by table-bound.
 pub fn put_text(out: &mut [u8], text: &[u8], entries: &mut [i32]) -> usize
     requires { ⌜ Room 0 (tableOf (now text)) (now out) × (length (now entries) ≡ maxEntries) ⌝ }
-    ensures { λ r. ⌜ Put 0 (tableOf (now (text .entry))) (now (out .entry)) r (now (out .exit)) × (now (entries .exit) ≡ entriesAfter (now (text .entry)) (now (entries .entry))) ⌝ }
+    ensures { λ r. ⌜ TextPut (now (text .entry)) (now (entries .entry)) (now (out .entry)) r (now (entries .exit)) (now (out .exit)) ⌝ }
 {
     let reading = reader::read(text, entries);
     let answer = reading.answer;

@@ -1,28 +1,29 @@
 -- The laws of the header line as src/header.rt reads it.
 --
 --   trim-step, trim-done          one byte less behind, or the last byte is no blank
---   p-short, p-is, cnf-short, cnf-is      the words `p` and `cnf`
+--   eqs-length, Same, same-start, same-step, same-other, same-done     a word is the wanted one, byte by byte
 --   Cuts, cuts-within             a line with no blanks behind, from gap to gap, within the line
 --   line-bad, line-large, line-fits     the text by what its header line says; large-vars, large-clauses, small-both: 3 before 4
 --   header-four, words-more       a line with no blanks behind: four words, as they are judged, or more
 --
 -- Assumes nothing.
 use mathlib.Core.Path.{_≡_, refl, sym, _∙_, ap}
-use mathlib.Core.Bool.{Bool, true, false, not, _&&_}
+use mathlib.Core.Bool.{Bool, true, false, not, _&&_, and-false}
 use mathlib.Core.List.{List, [], _∷_, _++_, map}
 use mathlib.Core.Option.{Option, none, some}
 use Prim.Native.Nat.{ℕ, suc, _+_, _-_, _≤_, _<_}
 use native.Mathlib.Decide.{decLt}
 use native.Mathlib.Omega.{arith}
 use native.Mathlib.Numerals.{add-one}
-use borrow.Author.Tests.{le-leb, lt-leb}
+use borrow.Author.Tests.{eq-eqb, ne-eqb, le-leb, lt-leb}
 use lib.Dec.{eqb, leb}
 use lib.ListN.{length, getD, take, drop, drop-of-length-le, length-drop}
-use lib.Seq.{take-suc, take-all, drop-drop, length-take-le}
+use lib.Seq.{drop-cons, take-suc, take-all, drop-drop, length-take-le}
 use Rattle.rules.specs.Lists.{keep, nthIndex, cut, eqs}
 use Rattle.rules.specs.declared.ReadAnswer.{ReadAnswer}
 use Rattle.rules.specs.Text.{Piece, Sizes, isGap, isBlank, isEmpty, isNumeral, trimIf, trimmed, sizesIf, sizesOf, wordsOf, headerOf, tokensFrom}
 use Rattle.rules.specs.Reading.{refused, judgeTokens, judgeSizes, fits, judgeHeader}
+use Rattle.rules.proofs.ListLaws.{apart}
 use Rattle.rules.proofs.CutLaws.{Stops, at-end, at-one, wordsFrom, bytes-placedWords}
 use Rattle.reader.specs.declared.header.Header.{Header}
 use Rattle.reader.specs.declared.header.HeaderLine.{HeaderLine}
@@ -59,35 +60,40 @@ module _ (line : List ℕ) (n : ℕ) (some : 0 < n) (within : n ≤ length line)
   pub trim-done : isBlank (getD line (n - 1) 0) ≡ false → take n line ≡ trimmed (take n line)
   trim-done e = last-byte ∙ sym (trimmed-byte (take (n - 1) line) (getD line (n - 1) 0) e) ∙ ap trimmed (sym last-byte)
 
--- ---- the words `p` and `cnf`
-
-and-true : (a : Bool) → a ≡ (a && true)
-and-true true = refl
-and-true false = refl
-
-and-false : (a : Bool) → false ≡ (a && false)
-and-false true = refl
-and-false false = refl
+-- ---- a word is the wanted one
 
 pub eqs-length : (xs ys : List ℕ) → (length xs ≡ length ys → ⊥) → false ≡ eqs xs ys
 eqs-length [] [] h = absurd (h refl)
 eqs-length [] (y ∷ ys) h = refl
 eqs-length (x ∷ xs) [] h = refl
-eqs-length (x ∷ xs) (y ∷ ys) h = rw (← eqs-length xs ys (λ e. h (ap suc e))) (and-false (eqb x y))
+eqs-length (x ∷ xs) (y ∷ ys) h = rw (← eqs-length xs ys (λ e. h (ap suc e)), and-false (eqb x y))
 
-pub p-is : (w : List ℕ) → length w ≡ 1 → eqb (getD w 0 0) 112 ≡ eqs w (112 ∷ [])
-p-is [] h = absurd (omega arith)
-p-is (a ∷ []) h = and-true (eqb a 112)
-p-is (a ∷ b ∷ w) h = absurd (omega arith)
+-- the first i bytes are the same
+pub record Same (word wanted : List ℕ) (i : ℕ) : Type 0 where
+  pub within : i ≤ length word
+  pub rest : eqs (drop i word) (drop i wanted) ≡ eqs word wanted
 
-pub cnf-is :
-    (w : List ℕ) → length w ≡ 3 →
-    (eqb (getD w 0 0) 99 && (eqb (getD w 1 0) 110 && eqb (getD w 2 0) 102)) ≡ eqs w (99 ∷ 110 ∷ 102 ∷ [])
-cnf-is [] h = absurd (omega arith)
-cnf-is (a ∷ []) h = absurd (omega arith)
-cnf-is (a ∷ b ∷ []) h = absurd (omega arith)
-cnf-is (a ∷ b ∷ c ∷ []) h = ap (λ (t : Bool). eqb a 99 && (eqb b 110 && t)) (and-true (eqb c 102))
-cnf-is (a ∷ b ∷ c ∷ d ∷ w) h = absurd (omega arith)
+pub same-start : (word wanted : List ℕ) → Same word wanted 0
+same-start word wanted = record { within = omega arith; rest = refl }
+
+module _ {word wanted : List ℕ} {i : ℕ} (long : length word ≡ length wanted) (w : Same word wanted i) where
+  same-here : i < length word
+      → eqs (drop i word) (drop i wanted) ≡ (eqb (getD word i 0) (getD wanted i 0) && eqs (drop (suc i) word) (drop (suc i) wanted))
+  same-here h = rw (drop-cons word i 0 h, drop-cons wanted i 0 (omega (arith, long)))
+
+  pub same-step : i < length word → getD word i 0 ≡ getD wanted i 0 → Same word wanted (i + 1)
+  same-step h e =
+      let q : eqs (drop i word) (drop i wanted) ≡ eqs (drop (suc i) word) (drop (suc i) wanted) = same-here h ∙ rw (eq-eqb _ _ e) in
+      record { within = omega arith; rest = rw (add-one i) (sym q ∙ w .rest) }
+
+  pub same-other : i < length word → (getD word i 0 ≡ getD wanted i 0 → ⊥) → false ≡ eqs word wanted
+  same-other h n = sym (sym (w .rest) ∙ same-here h ∙ rw (ne-eqb (getD word i 0) (getD wanted i 0) n))
+
+  pub same-done : length word ≤ i → true ≡ eqs word wanted
+  same-done h =
+      let q : eqs (drop i word) (drop i wanted) ≡ true =
+      rw (drop-of-length-le word {i = i} h, drop-of-length-le wanted {i = i} (omega (arith, long))) in
+      sym (sym (w .rest) ∙ q)
 
 -- ---- words from gap to gap
 
@@ -112,7 +118,8 @@ words-first line n here = go (decLt n (length line))
     go (yes h) =
         ap wordsOf (cut-first isGap line (omega (arith, is-n))) ∙
         rw is-n
-        (ap (λ (xs : List ℕ). take n line ∷ keep (λ v. not (isEmpty v)) (cut isGap xs)) (ap (λ (i : ℕ). drop i line) (sym (add-one n)) ∙ sym (drop-drop 1 n line)) ∙
+        (ap (λ (xs : List ℕ). take n line ∷ keep (λ v. not (isEmpty v)) (cut isGap xs))
+        (ap (λ (i : ℕ). drop i line) (sym (add-one n)) ∙ sym (drop-drop 1 n line)) ∙
         ap (λ (ws : List (List ℕ)). take n line ∷ ws) (stops-words n (rw is-n at (first-stops isGap line))))
     go (no h) =
         ap wordsOf (cut-whole isGap line (omega (arith, is-n))) ∙
@@ -206,24 +213,31 @@ module _ {line : List ℕ} {p cnf cnf-end vars vars-end clauses clauses-end more
     where
       fourth :
           Dec (clauses < length line) →
-          sizesOf (W ∷ part line cnf cnf-end ∷ part line vars vars-end ∷ wordsAt line vars-end) ≡ sizesOf (W ∷ part line cnf cnf-end ∷ part line vars vars-end ∷ part line clauses clauses-end ∷ [])
+          sizesOf (W ∷ part line cnf cnf-end ∷ part line vars vars-end ∷ wordsAt line vars-end)
+          ≡ sizesOf (W ∷ part line cnf cnf-end ∷ part line vars vars-end ∷ part line clauses clauses-end ∷ [])
       fourth (yes l) =
           ap (λ (ws : List (List ℕ)). sizesOf (W ∷ part line cnf cnf-end ∷ part line vars vars-end ∷ ws))
           (at-next line vars-end clauses clauses-end (w .clauses-from) (w .clauses-to) l ∙
           ap (λ (ws : List (List ℕ)). part line clauses clauses-end ∷ ws) (at-none line clauses-end more (w .more-from) h))
       fourth (no l) =
-          ap (λ (ws : List (List ℕ)). sizesOf (W ∷ part line cnf cnf-end ∷ part line vars vars-end ∷ ws)) (at-none line vars-end clauses (w .clauses-from) (omega arith)) ∙
+          ap (λ (ws : List (List ℕ)). sizesOf (W ∷ part line cnf cnf-end ∷ part line vars vars-end ∷ ws))
+          (at-none line vars-end clauses (w .clauses-from) (omega arith)) ∙
           no-clauses W (part line cnf cnf-end) (part line vars vars-end) ∙
-          ap (λ (x : List ℕ). sizesOf (W ∷ part line cnf cnf-end ∷ part line vars vars-end ∷ x ∷ [])) (part-none line clauses clauses-end (w .clauses-to) (omega arith))
+          ap (λ (x : List ℕ). sizesOf (W ∷ part line cnf cnf-end ∷ part line vars vars-end ∷ x ∷ []))
+          (part-none line clauses clauses-end (w .clauses-to) (omega arith))
 
       third :
           Dec (vars < length line) →
-          sizesOf (W ∷ part line cnf cnf-end ∷ wordsAt line cnf-end) ≡ sizesOf (W ∷ part line cnf cnf-end ∷ part line vars vars-end ∷ part line clauses clauses-end ∷ [])
-      third (yes l) = ap (λ (ws : List (List ℕ)). sizesOf (W ∷ part line cnf cnf-end ∷ ws)) (at-next line cnf-end vars vars-end (w .vars-from) (w .vars-to) l) ∙ fourth (decLt clauses (length line))
+          sizesOf (W ∷ part line cnf cnf-end ∷ wordsAt line cnf-end)
+          ≡ sizesOf (W ∷ part line cnf cnf-end ∷ part line vars vars-end ∷ part line clauses clauses-end ∷ [])
+      third (yes l) =
+          ap (λ (ws : List (List ℕ)). sizesOf (W ∷ part line cnf cnf-end ∷ ws)) (at-next line cnf-end vars vars-end (w .vars-from) (w .vars-to) l) ∙
+          fourth (decLt clauses (length line))
       third (no l) =
           ap (λ (ws : List (List ℕ)). sizesOf (W ∷ part line cnf cnf-end ∷ ws)) (at-none line cnf-end vars (w .vars-from) (omega arith)) ∙
           no-vars W (part line cnf cnf-end) (part line clauses clauses-end) ∙
-          ap (λ (x : List ℕ). sizesOf (W ∷ part line cnf cnf-end ∷ x ∷ part line clauses clauses-end ∷ [])) (part-none line vars vars-end (w .vars-to) (omega arith))
+          ap (λ (x : List ℕ). sizesOf (W ∷ part line cnf cnf-end ∷ x ∷ part line clauses clauses-end ∷ []))
+          (part-none line vars vars-end (w .vars-to) (omega arith))
 
       second :
           Dec (cnf < length line) →
@@ -232,7 +246,8 @@ module _ {line : List ℕ} {p cnf cnf-end vars vars-end clauses clauses-end more
       second (no l) =
           ap (λ (ws : List (List ℕ)). sizesOf (W ∷ ws)) (at-none line p cnf (w .cnf-from) (omega arith)) ∙
           no-cnf W (part line vars vars-end) (part line clauses clauses-end) ∙
-          ap (λ (x : List ℕ). sizesOf (W ∷ x ∷ part line vars vars-end ∷ part line clauses clauses-end ∷ [])) (part-none line cnf cnf-end (w .cnf-to) (omega arith))
+          ap (λ (x : List ℕ). sizesOf (W ∷ x ∷ part line vars vars-end ∷ part line clauses clauses-end ∷ []))
+          (part-none line cnf cnf-end (w .cnf-to) (omega arith))
 
   pub header-four :
       length line ≤ more → {r : HeaderLine} →
@@ -251,10 +266,14 @@ module _ {line : List ℕ} {p cnf cnf-end vars vars-end clauses clauses-end more
           ap (λ (ws : List (List ℕ)). sizesOf (W ∷ part line cnf cnf-end ∷ part line vars vars-end ∷ ws))
           (at-next line vars-end clauses clauses-end (w .clauses-from) (w .clauses-to) l ∙
           ap (λ (ws : List (List ℕ)). part line clauses clauses-end ∷ ws) (at-next line clauses-end more (firstFrom isGap line more) (w .more-from) refl h))
-      fourth (no l) = ap (λ (ws : List (List ℕ)). sizesOf (W ∷ part line cnf cnf-end ∷ part line vars vars-end ∷ ws)) (at-none line vars-end clauses (w .clauses-from) (omega arith))
+      fourth (no l) =
+          ap (λ (ws : List (List ℕ)). sizesOf (W ∷ part line cnf cnf-end ∷ part line vars vars-end ∷ ws))
+          (at-none line vars-end clauses (w .clauses-from) (omega arith))
 
       third : Dec (vars < length line) → sizesOf (W ∷ part line cnf cnf-end ∷ wordsAt line cnf-end) ≡ none
-      third (yes l) = ap (λ (ws : List (List ℕ)). sizesOf (W ∷ part line cnf cnf-end ∷ ws)) (at-next line cnf-end vars vars-end (w .vars-from) (w .vars-to) l) ∙ fourth (decLt clauses (length line))
+      third (yes l) =
+          ap (λ (ws : List (List ℕ)). sizesOf (W ∷ part line cnf cnf-end ∷ ws)) (at-next line cnf-end vars vars-end (w .vars-from) (w .vars-to) l) ∙
+          fourth (decLt clauses (length line))
       third (no l) = ap (λ (ws : List (List ℕ)). sizesOf (W ∷ part line cnf cnf-end ∷ ws)) (at-none line cnf-end vars (w .vars-from) (omega arith))
 
       second : Dec (cnf < length line) → sizesOf (W ∷ wordsAt line p) ≡ none
@@ -269,10 +288,10 @@ module _ (text : List ℕ) (from to : ℕ) where
 
   header-bad : (o : Option Sizes) → headerLine o ≡ HeaderLine.Malformed → o ≡ none
   header-bad none e = refl
-  header-bad (some s) e = absurd (let z : _≡_ {A = ℕ} 0 1 = cc in omega arith)
+  header-bad (some s) e = apart cc
 
   header-good : (o : Option Sizes) (h : Header) → headerLine o ≡ HeaderLine.Is h → o ≡ some (sizes h)
-  header-good none h e = absurd (let z : _≡_ {A = ℕ} 0 1 = cc in omega arith)
+  header-good none h e = apart cc
   header-good (some s) h e = let r : record { vars = s .vars; clauses = s .clauses } ≡ h = cc in rw (← r)
 
   pub line-bad : headerLine (headerOf line) ≡ HeaderLine.Malformed → judgeLineAt text from to ≡ refused (ReadAnswer.BadHeader from)
@@ -299,7 +318,7 @@ pub large-vars : (h : Header) → 256 < h .vars → fits (sizes h) ≡ false
 large-vars h l = rw (lt-leb (h .vars) 256 l)
 
 pub large-clauses : (h : Header) → 1024 < h .clauses → fits (sizes h) ≡ false
-large-clauses h l = rw (lt-leb (h .clauses) 1024 l) (sym (and-false (leb (h .vars) 256)))
+large-clauses h l = rw (lt-leb (h .clauses) 1024 l) (and-false (leb (h .vars) 256))
 
 pub small-both : (h : Header) → h .vars ≤ 256 → h .clauses ≤ 1024 → fits (sizes h) ≡ true
 small-both h v c = rw (le-leb (h .vars) 256 v, le-leb (h .clauses) 1024 c)

@@ -102,7 +102,9 @@ module _ (text : List ℕ) (at end : ℕ) (here : end ≡ firstFrom isLf text at
           let place : at + length (take n (drop at text)) + 1 ≡ end + 1 = omega (arith, here, long) in
           let shift : at + suc n ≡ end + 1 = omega (arith, here) in
           ap (λ (xss : List (List ℕ)). firstLine (placedFrom at xss)) (cut-first isLf (drop at text) (omega (arith, here, length-drop at text))) ∙
-          ap₂ (λ (m : ℕ) (ls : List Piece). lineIf (isSkipped (record { at = at; bytes = take m (drop at text) })) (record { at = at; bytes = take m (drop at text) }) (firstLine ls)) is-n
+          ap₂
+          (λ (m : ℕ) (ls : List Piece). lineIf (isSkipped (record { at = at; bytes = take m (drop at text) }))
+          (record { at = at; bytes = take m (drop at text) }) (firstLine ls)) is-n
           (ap₂ (λ (i : ℕ) (ys : List ℕ). placedFrom i (cut isLf ys)) place (drop-drop (suc n) at text ∙ ap (λ (i : ℕ). drop i text) shift))
       go (no h) =
           ap (λ (xss : List (List ℕ)). firstLine (placedFrom at xss)) (cut-whole isLf (drop at text) (omega (arith, here, length-drop at text))) ∙
@@ -157,7 +159,8 @@ module _ (text : List ℕ) where
     where
       go :
           (t : Bool) →
-          judgeLine t text (record { at = at; bytes = xs }) (refused (ReadAnswer.BadHeader (length text))) ≡ byLine text (lineIf t (record { at = at; bytes = xs }) Line.Missing)
+          judgeLine t text (record { at = at; bytes = xs }) (refused (ReadAnswer.BadHeader (length text)))
+          ≡ byLine text (lineIf t (record { at = at; bytes = xs }) Line.Missing)
       go true = refl
       go false = found-is at xs [] (append-nil xs ∙ e)
   cut-judged at (piece {xs} {y} {ys} {yss} h q c) e =
@@ -166,7 +169,8 @@ module _ (text : List ℕ) where
       go :
           (t : Bool) →
           judgeLines text (placedFrom (at + length xs + 1) yss) ≡ byLine text (firstLine (placedFrom (at + length xs + 1) yss)) →
-          judgeLine t text (record { at = at; bytes = xs }) (judgeLines text (placedFrom (at + length xs + 1) yss)) ≡ byLine text (lineIf t (record { at = at; bytes = xs }) (firstLine (placedFrom (at + length xs + 1) yss)))
+          judgeLine t text (record { at = at; bytes = xs }) (judgeLines text (placedFrom (at + length xs + 1) yss))
+          ≡ byLine text (lineIf t (record { at = at; bytes = xs }) (firstLine (placedFrom (at + length xs + 1) yss)))
       go true ih = ih
       go false ih = found-is at xs (y ∷ ys) e
 

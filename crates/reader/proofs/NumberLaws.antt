@@ -7,19 +7,20 @@
 --
 -- Assumes nothing.
 use mathlib.Core.Path.{_≡_, refl}
-use mathlib.Core.Bool.{Bool, true, false, _&&_}
+use mathlib.Core.Bool.{Bool, true, false, and-false}
 use mathlib.Core.List.{List, [], _∷_}
 use Prim.Native.Nat.{ℕ, _+_, _-_, _*_, _^_, _≤_, _<_}
 use native.Mathlib.Nat.{pow-succ', pow-le-pow-right}
 use native.Mathlib.Omega.{arith}
 use native.Mathlib.Numerals.{add-one}
-use borrow.Author.Tests.{le-leb, lt-leb, leb-true}
+use borrow.Author.Tests.{le-leb, lt-leb}
 use lib.Dec.{leb}
 use lib.ListN.{length, getD, drop, drop-of-length-le}
 use lib.Seq.{drop-cons}
 use Rattle.rules.specs.Lists.{all}
 use Rattle.rules.specs.Text.{isDigit, isNumeral, valueFrom, numeral}
-use Rattle.rules.proofs.ListLaws.{and-left, and-right}
+use Rattle.rules.proofs.ListLaws.{apart}
+use Rattle.rules.proofs.TokenLaws.{digit-above, digit-most}
 use Rattle.reader.specs.declared.number.Number.{Number}
 use Rattle.reader.specs.Words.{numberIf, numberOf}
 
@@ -29,7 +30,7 @@ pub number-bad : (word : List ℕ) → numberOf word ≡ Number.Malformed → is
 number-bad word e = go (isNumeral word) e
   where
     go : (t : Bool) → numberIf t (numeral word) ≡ Number.Malformed → t ≡ false
-    go true e = absurd (let z : _≡_ {A = ℕ} 0 1 = cc in omega arith)
+    go true e = apart cc
     go false e = refl
 
 pub number-good : (word : List ℕ) (n : ℕ) → numberOf word ≡ Number.Is n → (isNumeral word ≡ true) × (numeral word ≡ n)
@@ -37,11 +38,7 @@ number-good word n e = go (isNumeral word) e
   where
     go : (t : Bool) → numberIf t (numeral word) ≡ Number.Is n → (t ≡ true) × (numeral word ≡ n)
     go true e = (refl, cc)
-    go false e = absurd (let z : _≡_ {A = ℕ} 0 1 = cc in omega arith)
-
-and-false : (a : Bool) → (a && false) ≡ false
-and-false true = refl
-and-false false = refl
+    go false e = apart cc
 
 pub not-number-none : (word : List ℕ) → length word ≡ 0 → Number.Malformed ≡ numberOf word
 not-number-none [] h = refl
@@ -62,12 +59,6 @@ pub digits-start : (word : List ℕ) → Digits word 0 0
 unfolding numeral
 digits-start word = record { within = omega arith; small = omega arith; digits = refl; value = refl }
 
-pub digit-low : (b : ℕ) → isDigit b ≡ true → 48 ≤ b
-digit-low b e = leb-true 48 b (and-left (leb 48 b) (leb b 57) e)
-
-pub digit-high : (b : ℕ) → isDigit b ≡ true → b ≤ 57
-digit-high b e = leb-true b 57 (and-right (leb 48 b) (leb b 57) e)
-
 -- nine digits fit
 pub digits-small : (word : List ℕ) (n i : ℕ) → Digits word n i → i < 9 → n < 100000000
 digits-small word n i d h = omega (arith, d .small, pow-le-pow-right {n = 10} (omega arith) {i = i} {j = 8} (omega arith))
@@ -76,7 +67,7 @@ module _ (word : List ℕ) (n i : ℕ) (d : Digits word n i) (h : i < length wor
   pub digits-step : isDigit (getD word i 0) ≡ true → Digits word (10 * n + (getD word i 0 - 48)) (i + 1)
   digits-step e = record {
     within = omega arith;
-    small = rw (add-one i) (omega (arith, d .small, pow-succ' 10 i, digit-low (getD word i 0) e, digit-high (getD word i 0) e));
+    small = rw (add-one i) (omega (arith, d .small, pow-succ' 10 i, digit-above (getD word i 0) e, digit-most (getD word i 0) e));
     digits = rw (add-one i) (rw (drop-cons word i 0 h, e) at (d .digits));
     value = rw (add-one i) (rw (drop-cons word i 0 h) at (d .value));
   }

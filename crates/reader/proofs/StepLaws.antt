@@ -22,7 +22,6 @@ use lib.ListN.{length, take, drop}
 use lib.Seq.{length-take-le}
 use mir.Syntax.{w32}
 use mir.Val.{SFits, toZ, ofZ}
-use mir.Facts.{toZ-ofZ}
 use Rattle.rules.specs.declared.ReadAnswer.{ReadAnswer}
 use Rattle.rules.specs.Lists.{firstOf, orNext, countIf}
 use Rattle.rules.specs.Numbers.{maxEntries}
@@ -36,13 +35,12 @@ use Rattle.reader.specs.declared.tokens.Step.{Step}
 use Rattle.reader.specs.Scan.{firstFrom}
 use Rattle.reader.specs.Words.{signedValue, valueOf, tokenOf, sizes}
 use Rattle.reader.specs.Steps.{stepIf, entryStep, tokenStep, endStep, stepAt, stepOf, left}
+use Rattle.rules.proofs.ListLaws.{apart}
+use Rattle.rules.proofs.BitLaws.{toZ-ofZ-at}
 use Rattle.reader.proofs.ScanLaws.{first-le, from-le, words-none, words-next, word-lt}
 use Rattle.reader.proofs.TokenLaws.{bad-of-token, entry-of-token}
 
 -- ---- the entry as the machine holds it
-
-at32 : (z : ℤ) → SFits w32 z → toZ w32 (ofZ w32 z) ≡ z
-at32 z f = toZ-ofZ f
 
 small-plain : (n : ℕ) → n ≤ 256 → SFits w32 (pos n)
 small-plain n h = record { sfits = omega arith }
@@ -52,13 +50,13 @@ small-minus zero h = record { sfits = omega arith }
 small-minus (suc n) h = record { sfits = omega arith }
 
 pub plain-is : (n : ℕ) → n ≤ 256 → toZ w32 n ≡ pos n
-plain-is n h = at32 (pos n) (small-plain n h)
+plain-is n h = toZ-ofZ-at (pos n) (small-plain n h)
 
 pub minus-fits : (n : ℕ) → n ≤ 256 → SFits w32 (pos 0 -ℤ toZ w32 n)
 minus-fits n h = rw (plain-is n h, +ℤ-idl) (small-minus n h)
 
 pub minus-is : (n : ℕ) → n ≤ 256 → toZ w32 (ofZ w32 (pos 0 -ℤ toZ w32 n)) ≡ negℤ (pos n)
-minus-is n h = rw (plain-is n h, +ℤ-idl) (at32 (negℤ (pos n)) (small-minus n h))
+minus-is n h = rw (plain-is n h, +ℤ-idl) (toZ-ofZ-at (negℤ (pos n)) (small-minus n h))
 
 -- ---- its variable, and whether it closes a clause
 
@@ -81,8 +79,8 @@ zero-is e = go (e .minus) (e .number)
 -- ---- and back from its bits
 
 pub held : (l : ℤ) → natAbs l ≤ 256 → toZ w32 (ofZ w32 l) ≡ l
-held (pos n) h = at32 (pos n) (record { sfits = omega arith })
-held (negsuc n) h = at32 (negsuc n) (record { sfits = omega arith })
+held (pos n) h = toZ-ofZ-at (pos n) (record { sfits = omega arith })
+held (negsuc n) h = toZ-ofZ-at (negsuc n) (record { sfits = omega arith })
 
 pub value-back : (e : Entry) → e .number ≤ 256 → toZ w32 (ofZ w32 (valueOf e)) ≡ valueOf e
 value-back e h = held (valueOf e) (omega (arith, var-is e))
@@ -144,7 +142,7 @@ Judges h text c j Step.Ended = j ≡ accepted (sizes h) []
 Judges h text c j (Step.Store l next) = After h text c j l next
 
 no-rule : (b : Bool) (a : ReadAnswer) (o : Option ReadAnswer) → orNext b a o ≡ none → (b ≡ false) × (o ≡ none)
-no-rule true a o e = absurd (let z : _≡_ {A = ℕ} 0 1 = cc in omega arith)
+no-rule true a o e = apart cc
 no-rule false a o e = (refl, e)
 
 module _ (h : Header) (text : List ℕ) (c : Cursor) where
@@ -162,12 +160,15 @@ module _ (h : Header) (text : List ℕ) (c : Cursor) where
       (c .entries < maxEntries) × (natAbs l ≤ h .vars)
   kept l from e =
       let one = no-rule (leb (h .clauses) (c .clauses)) (ReadAnswer.TokenBehind from) _ e .1 in
-      let two = no-rule (ltb (h .vars) (natAbs l)) (ReadAnswer.TokenOverVars from) _ one in
-      (leb-false maxEntries (c .entries) (no-rule (leb maxEntries (c .entries)) (ReadAnswer.ManyTokens from) none (two .1) .0), ltb-false (h .vars) (natAbs l) (two .0))
+      let two = no-rule (ltb (h .vars) (natAbs l)) (ReadAnswer.TokenOverVars from) _ one in (
+        leb-false maxEntries (c .entries) (no-rule (leb maxEntries (c .entries)) (ReadAnswer.ManyTokens from) none (two .1) .0),
+        ltb-false (h .vars) (natAbs l) (two .0),
+      )
 
   judges-token :
       (from to : ℕ) (w : List ℕ) → c .at < to → to ≤ length text →
-      Judges h text c (judgeTokens (sizes h) (length text) (c .clauses) (c .entries) (record { at = from; bytes = w } ∷ tokensFrom to (drop to text))) (tokenStep (entryOf w) h c from to)
+      Judges h text c (judgeTokens (sizes h) (length text) (c .clauses) (c .entries) (record { at = from; bytes = w } ∷ tokensFrom to (drop to text)))
+      (tokenStep (entryOf w) h c from to)
   unfolding judgeTokens
   judges-token from to w lt le = token (entryOf w)
     where
@@ -177,7 +178,9 @@ module _ (h : Header) (text : List ℕ) (c : Cursor) where
           (unless o (withEntry l (judgeTokens (sizes h) (length text) (countIf (isZero l) (c .clauses)) (suc (c .entries)) (tokensFrom to (drop to text)))))
           (stepIf o (Step.Store l (record { at = to; clauses = countIf (isZero l) (c .clauses); entries = c .entries + 1 })))
       entry l none q = record {
-        judged = ap (λ (n : ℕ). withEntry l (judgeTokens (sizes h) (length text) (countIf (isZero l) (c .clauses)) n (tokensFrom to (drop to text)))) (sym (add-one (c .entries)));
+        judged =
+            ap (λ (n : ℕ). withEntry l (judgeTokens (sizes h) (length text) (countIf (isZero l) (c .clauses)) n (tokensFrom to (drop to text))))
+            (sym (add-one (c .entries)));
         onward = lt;
         within = le;
         count = refl;
@@ -217,7 +220,9 @@ module _ (h : Header) (text : List ℕ) (c : Cursor) where
           let long : from + length w ≡ to = word-long h text c from to refl l in
           let onward : c .at < to = omega (arith, lt) in
           subst judges (sym (words-next isBlank text (c .at) from refl to refl l))
-          (subst (λ (i : ℕ). Judges h text c (judgeTokens (sizes h) (length text) (c .clauses) (c .entries) (record { at = from; bytes = w } ∷ tokensFrom to (drop to text))) (tokenStep (entryOf w) h c from i)) (sym long)
+          (subst (λ (i : ℕ). Judges h text c
+          (judgeTokens (sizes h) (length text) (c .clauses) (c .entries) (record { at = from; bytes = w } ∷ tokensFrom to (drop to text)))
+          (tokenStep (entryOf w) h c from i)) (sym long)
           (judges-token from to w onward le))
       go (no l) = subst judges (sym (words-none isBlank text (c .at) from refl (omega arith))) judges-end
 

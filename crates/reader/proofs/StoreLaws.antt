@@ -1,7 +1,7 @@
 -- The laws of the buffer: what src/tokens.rt stores, what src/lib.rt clears, and that a reading is what rules defines.
 --
 --   clear-start, clear-step, length-clear     zeros from an index up to another
---   withEntries                   entries in front of a judgement
+--   withEntries-snoc              an entry more in front of a judgement
 --   Progress, progress-start, progress-step   the entries before the cursor are stored
 --   progress-refused, progress-ended          what is stored when the tokens end
 --   stores-of, stores-refused     a judgement that is another; a refusal before any entry
@@ -26,8 +26,10 @@ use Rattle.rules.specs.declared.Reading.{Reading}
 use Rattle.rules.specs.Lists.{check, firstOf, countIf}
 use Rattle.rules.specs.Numbers.{maxText, maxEntries}
 use Rattle.rules.specs.Text.{Piece, Sizes, isSkipped, headerOf, entryOf, linesOf, tokensFrom}
-use Rattle.rules.specs.Reading.{Judged, accepted, refused, unless, isZero, withEntry, judgeToken, judgeEnd, judgeTokens, judgeSizes, fits, judgeHeader, judgeLine, judgeLines, judge, returned, readingOf, filled, written, entriesAfter, Reads}
+use Rattle.rules.specs.Reading.{Judged, accepted, refused, unless, isZero, withEntry, judgeToken, judgeEnd, judgeTokens, judgeSizes, fits}
+use Rattle.rules.specs.Reading.{judgeHeader, judgeLine, judgeLines, judge, returned, readingOf, filled, written, entriesAfter, Reads}
 use Rattle.rules.proofs.ListLaws.{never}
+use Rattle.rules.proofs.JudgeLaws.{withEntries, withEntries-refused, withEntries-accepted}
 use Rattle.reader.specs.declared.header.Header.{Header}
 use Rattle.reader.specs.declared.tokens.Cursor.{Cursor}
 use Rattle.reader.specs.Words.{sizes}
@@ -49,7 +51,12 @@ module _ (before : List ℤ) (from i : ℕ) (low : from ≤ i) where
 
   front-long : i ≤ length before → length front ≡ i
   front-long h =
-      omega (arith, length-append (take from before) (replicate (i - from) (pos 0)), length-take-le from before (omega arith), length-replicate (i - from) (pos 0))
+      omega (
+        arith,
+        length-append (take from before) (replicate (i - from) (pos 0)),
+        length-take-le from before (omega arith),
+        length-replicate (i - from) (pos 0),
+      )
 
   pub length-clear : i ≤ length before → length (cleared before from i) ≡ length before
   length-clear h = omega (arith, length-append front (drop i before), front-long h, length-drop i before)
@@ -67,21 +74,9 @@ module _ (before : List ℤ) (from i : ℕ) (low : from ≤ i) where
 
 -- ---- entries in front of a judgement
 
-abbrev pub withEntries : List ℤ → Judged → Judged
-withEntries [] j = j
-withEntries (l ∷ ls) j = withEntry l (withEntries ls j)
-
-with-snoc : (ls : List ℤ) (l : ℤ) (j : Judged) → withEntries ls (withEntry l j) ≡ withEntries (ls ++ l ∷ []) j
-with-snoc [] l j = refl
-with-snoc (k ∷ ls) l j = ap (withEntry k) (with-snoc ls l j)
-
-with-refused : (ls : List ℤ) (a : ReadAnswer) → withEntries ls (refused a) ≡ refused a
-with-refused [] a = refl
-with-refused (l ∷ ls) a = ap (withEntry l) (with-refused ls a)
-
-with-accepted : (ls : List ℤ) (s : Sizes) → withEntries ls (accepted s []) ≡ accepted s ls
-with-accepted [] s = refl
-with-accepted (l ∷ ls) s = ap (withEntry l) (with-accepted ls s)
+withEntries-snoc : (ls : List ℤ) (l : ℤ) (j : Judged) → withEntries ls (withEntry l j) ≡ withEntries (ls ++ l ∷ []) j
+withEntries-snoc [] l j = refl
+withEntries-snoc (k ∷ ls) l j = ap (withEntry k) (withEntries-snoc ls l j)
 
 -- ---- the entries before the cursor are stored
 
@@ -94,7 +89,8 @@ pub record Progress (h : Header) (text : List ℕ) (from : ℕ) (before : List �
 pub progress-start : (h : Header) (text : List ℕ) (from : ℕ) (before : List ℤ) → Progress h text from before (start from) before
 progress-start h text from before = record { most = omega arith; long = refl; rest = refl; judged = refl }
 
-module _ (h : Header) (text : List ℕ) (from : ℕ) (before : List ℤ) (room : maxEntries ≤ length before) (c : Cursor) (now : List ℤ) (p : Progress h text from before c now) where
+module _ (h : Header) (text : List ℕ) (from : ℕ) (before : List ℤ) (room : maxEntries ≤ length before)
+    (c : Cursor) (now : List ℤ) (p : Progress h text from before c now) where
   pub progress-step :
       (l : ℤ) (next : Cursor) → After h text c (left h text c) l next → Progress h text from before next (set now (c .entries) l)
   progress-step l next a =
@@ -107,15 +103,16 @@ module _ (h : Header) (text : List ℕ) (from : ℕ) (before : List ℤ) (room :
         judged =
             p .judged ∙
             ap (withEntries (take (c .entries) now)) (a .judged) ∙
-            with-snoc (take (c .entries) now) l (left h text next) ∙
-            ap (λ (es : List ℤ). withEntries es (left h text next)) (sym (ap (λ (n : ℕ). take n (set now (c .entries) l)) more ∙ take-suc-set now (c .entries) l there));
+            withEntries-snoc (take (c .entries) now) l (left h text next) ∙
+            ap (λ (es : List ℤ). withEntries es (left h text next))
+            (sym (ap (λ (n : ℕ). take n (set now (c .entries) l)) more ∙ take-suc-set now (c .entries) l there));
       }
 
   pub progress-refused :
       (a : ReadAnswer) (r : Reading) → left h text c ≡ refused a → r ≡ returned (refused a) →
       Stores (left h text (start from)) before r now
   progress-refused a r e q =
-      rw (p .judged ∙ ap (withEntries (take (c .entries) now)) e ∙ with-refused (take (c .entries) now) a)
+      rw (p .judged ∙ ap (withEntries (take (c .entries) now)) e ∙ withEntries-refused (take (c .entries) now) a)
       (record { result-is = q; list-is = refl; most = omega arith; rest-is = p .rest })
 
   pub progress-ended :
@@ -123,7 +120,7 @@ module _ (h : Header) (text : List ℕ) (from : ℕ) (before : List ℤ) (room :
       Stores (left h text (start from)) before (record { answer = ReadAnswer.Accepted; vars = h .vars; clauses = h .clauses; entries = c .entries }) now
   progress-ended e =
       let long : length (take (c .entries) now) ≡ c .entries = length-take-le (c .entries) now (omega (arith, p .long, p .most)) in
-      rw (p .judged ∙ ap (withEntries (take (c .entries) now)) e ∙ with-accepted (take (c .entries) now) (sizes h))
+      rw (p .judged ∙ ap (withEntries (take (c .entries) now)) e ∙ withEntries-accepted (take (c .entries) now) (sizes h))
       (record {
         result-is = ap (λ (n : ℕ). record { answer = ReadAnswer.Accepted; vars = h .vars; clauses = h .clauses; entries = n }) (sym long);
         list-is = ap (λ (n : ℕ). take n now) long;
@@ -187,7 +184,8 @@ late-tokens s end k n (t ∷ ts) = go (entryOf (t .bytes)) (λ j. late-tokens s 
     go none ih = refl
     go (some l) ih =
         late-rules (leb (s .clauses) k) (ltb (s .vars) (natAbs l)) (leb maxEntries n) (t .at)
-        (withEntry l (judgeTokens s end (countIf (isZero l) k) (suc n) ts)) (late-entry l (judgeTokens s end (countIf (isZero l) k) (suc n) ts) (ih (countIf (isZero l) k)))
+        (withEntry l (judgeTokens s end (countIf (isZero l) k) (suc n) ts))
+        (late-entry l (judgeTokens s end (countIf (isZero l) k) (suc n) ts) (ih (countIf (isZero l) k)))
 
 late-header : (text : List ℕ) (line : Piece) (o : Option Sizes) → isLate (judgeHeader o text line) ≡ true
 late-header text line none = refl

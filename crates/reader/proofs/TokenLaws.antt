@@ -20,6 +20,7 @@ use Rattle.reader.specs.declared.number.Number.{Number}
 use Rattle.reader.specs.declared.token.Entry.{Entry}
 use Rattle.reader.specs.declared.token.Token.{Token}
 use Rattle.reader.specs.Words.{numberIf, numberOf, valueOf, tokenOf, signedToken}
+use Rattle.rules.proofs.ListLaws.{apart}
 
 -- ---- a number with a minus or without
 
@@ -68,10 +69,10 @@ token-plain (b ∷ bs) n e = rw (ne-eqb b 45 e) (plain-is (isNumeral (b ∷ bs))
 
 pub bad-of-token : (o : Option ℤ) → tokenOf o ≡ Token.Malformed → o ≡ none
 bad-of-token none h = refl
-bad-of-token (some (pos n)) h = absurd (let z : _≡_ {A = ℕ} 0 1 = cc in omega arith)
-bad-of-token (some (negsuc n)) h = absurd (let z : _≡_ {A = ℕ} 0 1 = cc in omega arith)
+bad-of-token (some (pos n)) h = apart cc
+bad-of-token (some (negsuc n)) h = apart cc
 
 pub entry-of-token : (o : Option ℤ) (e : Entry) → tokenOf o ≡ Token.Is e → o ≡ some (valueOf e)
-entry-of-token none e h = absurd (let z : _≡_ {A = ℕ} 0 1 = cc in omega arith)
+entry-of-token none e h = apart cc
 entry-of-token (some (pos n)) e h = let r : record { minus = false; number = n } ≡ e = cc in rw (← r)
 entry-of-token (some (negsuc n)) e h = let r : record { minus = true; number = suc n } ≡ e = cc in rw (← r)

@@ -36,32 +36,31 @@ fn trimmed_len(line: &[u8]) -> usize
     n
 }
 
-fn is_p(word: &[u8]) -> bool
-    ensures { λ r. ⌜ r ≡ eqs (now (word .entry)) (112 ∷ []) ⌝ }
+// Whether a word is the wanted one, byte by byte.
+fn is_word(word: &[u8], wanted: &[u8]) -> bool
+    ensures { λ r. ⌜ r ≡ eqs (now (word .entry)) (now (wanted .entry)) ⌝ }
 {
-    if word.len() != 1 {
+    if word.len() != wanted.len() {
         return false;
     }
-    word[0] == b'p'
-}
-
-fn is_cnf(word: &[u8]) -> bool
-    ensures { λ r. ⌜ r ≡ eqs (now (word .entry)) (99 ∷ 110 ∷ 102 ∷ []) ⌝ }
-{
-    if word.len() != 3 {
-        return false;
+    let mut i: usize = 0;
+    while i < word.len() {
+        if word[i] != wanted[i] {
+            return false;
+        }
+        i += 1;
     }
-    word[0] == b'c' && (word[1] == b'n' && word[2] == b'f')
+    true
 }
 
 // The four words as a header.
 fn sizes_of(p: &[u8], cnf: &[u8], vars: &[u8], clauses: &[u8]) -> HeaderLine
     ensures { λ r. ⌜ r ≡ headerLine (sizesOf (now (p .entry) ∷ now (cnf .entry) ∷ now (vars .entry) ∷ now (clauses .entry) ∷ [])) ⌝ }
 {
-    if !is_p(p) {
+    if !is_word(p, b"p") {
         return HeaderLine::Malformed;
     }
-    if !is_cnf(cnf) {
+    if !is_word(cnf, b"cnf") {
         return HeaderLine::Malformed;
     }
     let Number::Is(v) = number_of(vars) else {

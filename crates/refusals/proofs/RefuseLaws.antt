@@ -1,19 +1,18 @@
 -- The laws of `refuse`: the loops that look for an entry, and the last entry.
 --
 --   Seek, seek-start, seek-pass, seek-count, seek-found, seek-done     the loop that looks for the entry that passes as the nth one
---   nthIndex-none     where too few pass, the index is the length
 --   isZero-bits, isZero-same, isZero-other     an entry is 0 if its bits are
 --   isEnded-empty, isEnded-read     an empty list, and the last entry, as code reads it
 --
 -- Assumes nothing.
-use mathlib.Core.Path.{_≡_, refl, sym, _∙_, ap}
-use mathlib.Core.Logic.{_≢_, _⊎_, inl, inr}
+use mathlib.Core.Path.{_≡_, refl, _∙_, ap}
+use mathlib.Core.Logic.{_≢_}
 use mathlib.Core.Bool.{Bool, true, false}
-use mathlib.Core.List.{List, [], _∷_, _++_}
+use mathlib.Core.List.{List, [], _∷_}
 use Prim.Native.Nat.{ℕ, zero, suc, _+_, _-_, _≤_, _<_, _^_}
 use native.Mathlib.Omega.{arith}
 use native.Mathlib.Numerals.{add-one}
-use lib.IntN.{ℤ, pos, negsuc}
+use lib.IntN.{ℤ, pos}
 use lib.Dec.{eqb, lit<}
 use lib.Signed.{mag}
 use lib.ListN.{length, getD, drop, drop-of-length-le}
@@ -21,7 +20,7 @@ use lib.Seq.{drop-cons}
 use mir.Syntax.{w32}
 use mir.Val.{ofZ}
 use borrow.Author.Tests.{eqb-true, eq-eqb}
-use Rattle.rules.specs.Lists.{count, countIf, indexIf, nthIndex}
+use Rattle.rules.specs.Lists.{indexIf, nthIndex}
 use Rattle.rules.specs.Reading.{isZero}
 use Rattle.rules.specs.Answer.{isEnded}
 use Rattle.rules.proofs.ListLaws.{same-test, eqz-sound, eqz-complete, eqz-other}
@@ -48,7 +47,8 @@ module _ {p : ℤ → Bool} {es : List ℤ} {n left i : ℕ} (w : Seek p es n le
   pub seek-count : i < length es → p (getD es i (pos 0)) ≡ true → left ≢ 0 → Seek p es n (left - 1) (i + 1)
   seek-count h e m = record { within = omega arith; same = rw (add-one i) (go left m (rw e at (here h)) (w .same)) }
     where
-      go : (left : ℕ) → left ≢ 0 → nthIndex p (drop i es) left ≡ indexIf true left (λ k. nthIndex p (drop (suc i) es) k) → i + nthIndex p (drop i es) left ≡ nthIndex p es n → suc i + nthIndex p (drop (suc i) es) (left - 1) ≡ nthIndex p es n
+      go : (left : ℕ) → left ≢ 0 → nthIndex p (drop i es) left ≡ indexIf true left (λ k. nthIndex p (drop (suc i) es) k)
+          → i + nthIndex p (drop i es) left ≡ nthIndex p es n → suc i + nthIndex p (drop (suc i) es) (left - 1) ≡ nthIndex p es n
       go zero m q r = absurd (m refl)
       go (suc l) m q r =
           let z : suc l - 1 ≡ l = omega arith in
@@ -56,22 +56,13 @@ module _ {p : ℤ → Bool} {es : List ℤ} {n left i : ℕ} (w : Seek p es n le
 
   pub seek-found : i < length es → p (getD es i (pos 0)) ≡ true → left ≡ 0 → i ≡ nthIndex p es n
   seek-found h e z =
-      let q : nthIndex p (drop i es) left ≡ 0 = here h ∙ ap (λ (b : Bool). indexIf b left (λ k. nthIndex p (drop (suc i) es) k)) e ∙ ap (λ (k : ℕ). indexIf true k (λ k. nthIndex p (drop (suc i) es) k)) z in
+      let q : nthIndex p (drop i es) left ≡ 0 = here h ∙ rw (e, z) in
       omega (arith, w .same)
 
   pub seek-done : length es ≤ i → i ≡ nthIndex p es n
   seek-done h =
       let q : nthIndex p (drop i es) left ≡ 0 = ap (λ (xs : List ℤ). nthIndex p xs left) (drop-of-length-le es {i = i} h) in
       omega (arith, w .same)
-
-pub nthIndex-none : (p : ℤ → Bool) (es : List ℤ) (n : ℕ) → count p es ≤ n → nthIndex p es n ≡ length es
-nthIndex-none p [] n h = refl
-nthIndex-none p (e ∷ es) n h = go (p e) n h (λ k l. nthIndex-none p es k l)
-  where
-    go : (b : Bool) (n : ℕ) → countIf b (count p es) ≤ n → ((k : ℕ) → count p es ≤ k → nthIndex p es k ≡ length es) → indexIf b n (λ k. nthIndex p es k) ≡ suc (length es)
-    go true zero h ih = absurd (omega arith)
-    go true (suc n) h ih = ap suc (ih n (omega arith))
-    go false n h ih = ap suc (ih n h)
 
 -- ---- an entry's bits
 
@@ -80,7 +71,8 @@ zero-of-bits z f e = ofZ-inj f (lit< tt) e
 
 pub isZero-bits : (z : ℤ) → mag z < 2 ^ 31 → eqb (ofZ w32 z) 0 ≡ isZero z
 isZero-bits z f =
-    same-test (eqb (ofZ w32 z) 0) (isZero z) (λ e. eqz-complete z (pos 0) (zero-of-bits z f (eqb-true _ _ e))) (λ e. eq-eqb (ofZ w32 z) 0 (ap (ofZ w32) (eqz-sound z (pos 0) e)))
+    same-test (eqb (ofZ w32 z) 0) (isZero z) (λ e. eqz-complete z (pos 0) (zero-of-bits z f (eqb-true _ _ e)))
+    (λ e. eq-eqb (ofZ w32 z) 0 (ap (ofZ w32) (eqz-sound z (pos 0) e)))
 
 pub isZero-same : (z : ℤ) → mag z < 2 ^ 31 → ofZ w32 z ≡ 0 → isZero z ≡ true
 isZero-same z f e = eqz-complete z (pos 0) (zero-of-bits z f e)

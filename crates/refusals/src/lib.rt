@@ -1,13 +1,10 @@
-// What a run refuses, in the order 10, 1, 11, 12 (docs/RULES.md, "What comes back"). Nobody has to check a list first.
+// What a run refuses, in the order 10, 1, 11, 12 (docs/RULES.md, "What comes back"), and of these 11 and 12, which are the list's own, for
+// whoever takes one. Nobody has to check a list first.
 ghost use mathlib.Core.Path.{_≡_};
-ghost use mathlib.Core.Bool.{_||_};
-ghost use Prim.Native.Nat.{ℕ, _≤_};
-ghost use lib.Dec.{eqb, ltb};
-ghost use Rattle.rules.specs.Lists.{nthIndex};
-ghost use Rattle.rules.specs.Numbers.{maxVars};
+ghost use Prim.Native.Nat.{ℕ};
+ghost use Rattle.rules.specs.Lists.{nthIndex, firstOf};
 ghost use Rattle.rules.specs.Reading.{isZero};
-ghost use Rattle.rules.specs.Answer.{Given, given, logLength, isEnded, isAbove, refusalOf};
-ghost use Rattle.rules.specs.RunRefusals.{Lent};
+ghost use Rattle.rules.specs.Answer.{given, isEnded, isAbove, listRules, refusalOf};
 ghost use Rattle.refusals.specs.Refuse.{found};
 
 // Why a run is refused, if it is.
@@ -63,10 +60,10 @@ fn first_above(entries: &[i32], vars: u32) -> usize
     i
 }
 
-// 11 and 12, where 10 and 1 are not to be given.
-fn refuse_list(entries: &[i32], vars: u32) -> Refusal
-    requires { ⌜ vars ≤ maxVars ⌝ }
-    ensures { λ r. ⌜ ((g : Given) → g .entries ≡ now (entries .entry) → g .vars ≡ vars → Lent g → r ≡ found (refusalOf g)) ⌝ }
+// Why a list is refused, if it is: 11 and 12, whoever takes it. Every list and every V is answered.
+// Rules out: a list that is not ended accepted; 12 before a case of 11.
+pub fn refuse_list(entries: &[i32], vars: u32) -> Refusal
+    ensures { λ r. ⌜ r ≡ found (firstOf (listRules (now (entries .entry)) vars)) ⌝ }
 {
     if rules::MAX_ENTRIES < entries.len() {
         return Refusal::Refused(rules::RunAnswer::BadList(rules::MAX_ENTRIES));

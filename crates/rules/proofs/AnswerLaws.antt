@@ -1,31 +1,33 @@
 -- The laws of specs/Answer: the tests by which a run is refused, each against what the table of docs/RULES.md says.
 --
 --   Nth, nthIndex-split, nthIndex-at      the element at nthIndex, and back
+--   nthIndex-none, nthIndex-below, nthIndex-above     how many pass, by the index
 --   isEnded-snoc, isEnded-last    empty or ended by 0
 --   limits-sound, limits-complete, limits-false, limits-of     the test of 10, both ways
 --   room-sound, room-complete, room-false, room-of     the test of 1, both ways
 --   list-false                    a list that no case of 11 refuses
+--   list-long-first, not-ended-first, zero-over-first, above-first, list-first     the first rule that refuses a list, or none
+--   refusal-lent                  where 10 and 1 are not to be given, the refusal is the list's
 --
 -- Assumes nothing.
-use mathlib.Core.Path.{_≡_, refl, sym, _∙_, ap}
+use mathlib.Core.Path.{_≡_, refl, ap}
 use mathlib.Core.Logic.{_≢_, _⊎_, inl, inr}
-use mathlib.Core.Bool.{Bool, true, false, not, _||_, or-true}
-use mathlib.Core.List.{List, [], _∷_, _++_, List·Memᴰ·head, List·Memᴰ·tail, List·Memᴰ·not-nil, Memᴰ·append-right}
-use mathlib.Core.Option.{Option, none, some}
-use Prim.Native.Nat.{ℕ, zero, suc, _+_, _≤_, _<_}
+use mathlib.Core.Bool.{Bool, true, false, _||_, or-true}
+use mathlib.Core.List.{List, [], _∷_, _++_}
+use mathlib.Core.Option.{none, some}
+use Prim.Native.Nat.{ℕ, zero, suc, _≤_, _<_}
 use native.Mathlib.Omega.{arith}
-use lib.IntN.{ℤ, pos, negsuc}
-use lib.Dec.{eqb, leb, ltb}
-use lib.ListN.{length}
-use borrow.Author.Tests.{eqb-true, eqb-false, eq-eqb, ne-eqb, ltb-true, ltb-false, lt-ltb, le-ltb, not-true, not-false}
+use lib.IntN.{ℤ}
+use lib.Dec.{eqb, ltb}
+use lib.ListN.{length, length-append}
+use borrow.Author.Tests.{eqb-true, eqb-false, eq-eqb, ne-eqb, ltb-true, ltb-false, lt-ltb, le-ltb}
 use Rattle.rules.specs.declared.RunAnswer.{RunAnswer}
-use Rattle.rules.specs.Lists.{In, any, count, countIf, indexIf, nthIndex, orNext, eqz}
+use Rattle.rules.specs.Lists.{any, count, countIf, indexIf, nthIndex, firstOf}
 use Rattle.rules.specs.Numbers.{maxVars, maxClauses, maxEntries, maxChunk}
-use Rattle.rules.specs.Meaning.{varOf}
 use Rattle.rules.specs.Reading.{isZero}
-use Rattle.rules.specs.Answer.{Given, logLength, isEnded, isAbove, refusalOf}
-use Rattle.rules.specs.RunRefusals.{InLimits, Lent, Listed, Accepted, RunRefuses, bad-limits, short-buffer, list-long, not-ended, zero-over, entry-over-vars}
-use Rattle.rules.proofs.ListLaws.{both, never, any-sound, any-complete, none-of-any, any-of-none, eqz-sound}
+use Rattle.rules.specs.Answer.{Given, logLength, isEnded, isAbove, listRules, refusalOf}
+use Rattle.rules.specs.RunRefusals.{InLimits, Lent, Listed}
+use Rattle.rules.proofs.ListLaws.{le-or-lt, never, or-cases, or-left, or-right}
 
 -- ---- the element that passes and has n passing elements before it
 
@@ -43,7 +45,8 @@ module _ {A : Type 0} (p : A → Bool) where
   nthIndex-at [] x back h = rw h
   nthIndex-at (y ∷ front) x back h = go (p y) refl (nthIndex-at front x back h)
     where
-      go : (b : Bool) → p y ≡ b → nthIndex p (front ++ x ∷ back) (count p front) ≡ length front → indexIf b (countIf b (count p front)) (λ k. nthIndex p (front ++ x ∷ back) k) ≡ suc (length front)
+      go : (b : Bool) → p y ≡ b → nthIndex p (front ++ x ∷ back) (count p front) ≡ length front
+          → indexIf b (countIf b (count p front)) (λ k. nthIndex p (front ++ x ∷ back) k) ≡ suc (length front)
       go true e ih = ap suc ih
       go false e ih = ap suc ih
 
@@ -73,6 +76,34 @@ module _ {A : Type 0} (p : A → Bool) where
       go true e (suc n) h ih = more true e n (ih n (omega arith))
       go false e n h ih = more false e n (ih n h)
 
+  -- where too few pass, the index is the length
+  pub nthIndex-none : (xs : List A) (n : ℕ) → count p xs ≤ n → nthIndex p xs n ≡ length xs
+  nthIndex-none [] n h = refl
+  nthIndex-none (x ∷ xs) n h = go (p x) n h (λ k l. nthIndex-none xs k l)
+    where
+      go : (b : Bool) (n : ℕ) → countIf b (count p xs) ≤ n → ((k : ℕ) → count p xs ≤ k → nthIndex p xs k ≡ length xs)
+          → indexIf b n (λ k. nthIndex p xs k) ≡ suc (length xs)
+      go true zero h ih = absurd (omega arith)
+      go true (suc n) h ih = ap suc (ih n (omega arith))
+      go false n h ih = ap suc (ih n h)
+
+  -- so an index below the length is that of such an element, and the length says that too few pass
+  pub nthIndex-below : (xs : List A) (n : ℕ) → nthIndex p xs n < length xs → n < count p xs
+  nthIndex-below xs n h = go (le-or-lt (count p xs) n)
+    where
+      go : (count p xs ≤ n) ⊎ (n < count p xs) → n < count p xs
+      go (inl l) = absurd (omega (arith, nthIndex-none xs n l))
+      go (inr l) = l
+
+  pub nthIndex-above : (xs : List A) (n : ℕ) → length xs ≤ nthIndex p xs n → count p xs ≤ n
+  nthIndex-above xs n h = go (le-or-lt (count p xs) n)
+    where
+      go : (count p xs ≤ n) ⊎ (n < count p xs) → count p xs ≤ n
+      go (inl l) = l
+      go (inr l) =
+          let w = nthIndex-split xs n l in
+          absurd (omega (arith, w .index, ap length (w .split), length-append (w .front) (w .this ∷ w .back)))
+
 -- ---- empty, or ended by 0
 
 pub isEnded-snoc : (front : List ℤ) (l : ℤ) → isEnded (front ++ (l ∷ [])) ≡ isZero l
@@ -88,14 +119,6 @@ isEnded-last (e ∷ f ∷ es) h =
 
 -- ---- the tests, one by one
 
-or-cases : (a b : Bool) → (a || b) ≡ true → (a ≡ true) ⊎ (b ≡ true)
-or-cases true b h = inl refl
-or-cases false b h = inr h
-
-or-false : (a b : Bool) → (a || b) ≡ false → (a ≡ false) × (b ≡ false)
-or-false true b h = absurd (never refl h)
-or-false false b h = (refl, h)
-
 module _ (g : Given) where
   abbrev pub limits-test : Bool
   limits-test = ltb maxVars (g .vars) || (eqb (g .limit) 0 || ltb maxChunk (g .limit))
@@ -110,7 +133,8 @@ module _ (g : Given) where
       rest (inl e) = inl (eqb-true _ _ e)
       rest (inr e) = inr (ltb-true _ _ e)
 
-      go : (ltb maxVars (g .vars) ≡ true) ⊎ ((eqb (g .limit) 0 || ltb maxChunk (g .limit)) ≡ true) → (maxVars < g .vars) ⊎ ((g .limit ≡ 0) ⊎ (maxChunk < g .limit))
+      go : (ltb maxVars (g .vars) ≡ true) ⊎ ((eqb (g .limit) 0 || ltb maxChunk (g .limit)) ≡ true)
+          → (maxVars < g .vars) ⊎ ((g .limit ≡ 0) ⊎ (maxChunk < g .limit))
       go (inl e) = inl (ltb-true _ _ e)
       go (inr e) = inr (rest (or-cases (eqb (g .limit) 0) (ltb maxChunk (g .limit)) e))
 
@@ -122,10 +146,15 @@ module _ (g : Given) where
 
   pub limits-false : limits-test ≡ false → InLimits g
   limits-false h =
-      let (a, r) = or-false (ltb maxVars (g .vars)) (eqb (g .limit) 0 || ltb maxChunk (g .limit)) h in
-      let (b, c) = or-false (eqb (g .limit) 0) (ltb maxChunk (g .limit)) r in
-      let n : g .limit ≢ 0 = eqb-false _ _ b in
-      record { vars-fit = ltb-false _ _ a; limit-some = omega arith; limit-fits = ltb-false _ _ c }
+      let some = eqb (g .limit) 0 in
+      let over = ltb maxChunk (g .limit) in
+      let rest = or-right (ltb maxVars (g .vars)) (some || over) h in
+      let n : g .limit ≢ 0 = eqb-false _ _ (or-left some over rest) in
+      record {
+        vars-fit = ltb-false _ _ (or-left (ltb maxVars (g .vars)) (some || over) h);
+        limit-some = omega arith;
+        limit-fits = ltb-false _ _ (or-right some over rest);
+      }
 
   pub limits-of : InLimits g → limits-test ≡ false
   limits-of w =
@@ -134,7 +163,8 @@ module _ (g : Given) where
   pub room-sound : room-test ≡ true → (length (g .status) < g .vars) ⊎ (length (g .log) < logLength (g .vars))
   room-sound h = go (or-cases (ltb (length (g .status)) (g .vars)) (ltb (length (g .log)) (logLength (g .vars))) h)
     where
-      go : (ltb (length (g .status)) (g .vars) ≡ true) ⊎ (ltb (length (g .log)) (logLength (g .vars)) ≡ true) → (length (g .status) < g .vars) ⊎ (length (g .log) < logLength (g .vars))
+      go : (ltb (length (g .status)) (g .vars) ≡ true) ⊎ (ltb (length (g .log)) (logLength (g .vars)) ≡ true)
+          → (length (g .status) < g .vars) ⊎ (length (g .log) < logLength (g .vars))
       go (inl e) = inl (ltb-true _ _ e)
       go (inr e) = inr (ltb-true _ _ e)
 
@@ -144,11 +174,44 @@ module _ (g : Given) where
 
   pub room-false : InLimits g → room-test ≡ false → Lent g
   room-false w h =
-      let (a, b) = or-false (ltb (length (g .status)) (g .vars)) (ltb (length (g .log)) (logLength (g .vars))) h in
-      record { in-limits = w; status-fits = ltb-false _ _ a; log-fits = ltb-false _ _ b }
+      let short = ltb (length (g .status)) (g .vars) in
+      let short-log = ltb (length (g .log)) (logLength (g .vars)) in
+      record {
+        in-limits = w;
+        status-fits = ltb-false _ _ (or-left short short-log h);
+        log-fits = ltb-false _ _ (or-right short short-log h);
+      }
 
   pub room-of : Lent g → room-test ≡ false
   room-of w = rw (le-ltb (length (g .status)) (g .vars) (w .status-fits), le-ltb (length (g .log)) (logLength (g .vars)) (w .log-fits))
 
-  pub list-false : Lent g → ltb maxEntries (length (g .entries)) ≡ false → isEnded (g .entries) ≡ true → ltb maxClauses (count isZero (g .entries)) ≡ false → Listed g
+  pub list-false : Lent g → ltb maxEntries (length (g .entries)) ≡ false
+      → isEnded (g .entries) ≡ true → ltb maxClauses (count isZero (g .entries)) ≡ false → Listed g
   list-false w a b c = record { lent = w; entries-fit = ltb-false _ _ a; ended = b; clauses-fit = ltb-false _ _ c }
+
+  pub refusal-lent : Lent g → refusalOf g ≡ firstOf (listRules (g .entries) (g .vars))
+  unfolding refusalOf
+  refusal-lent w = rw (limits-of (w .in-limits), room-of w)
+
+-- ---- the list's rules: the first that refuses it
+
+module _ (es : List ℤ) (vars : ℕ) where
+  pub list-long-first : maxEntries < length es → firstOf (listRules es vars) ≡ some (RunAnswer.BadList maxEntries)
+  list-long-first h = rw (lt-ltb maxEntries (length es) h)
+
+  module _ (short : length es ≤ maxEntries) where
+    pub not-ended-first : isEnded es ≡ false → firstOf (listRules es vars) ≡ some (RunAnswer.BadList (length es))
+    not-ended-first e = rw (le-ltb maxEntries (length es) short, e)
+
+    module _ (ended : isEnded es ≡ true) where
+      pub zero-over-first : maxClauses < count isZero es
+          → firstOf (listRules es vars) ≡ some (RunAnswer.BadList (nthIndex isZero es maxClauses))
+      zero-over-first h = rw (le-ltb maxEntries (length es) short, ended, lt-ltb maxClauses (count isZero es) h)
+
+      module _ (few : count isZero es ≤ maxClauses) where
+        pub above-first : any (isAbove vars) es ≡ true
+            → firstOf (listRules es vars) ≡ some (RunAnswer.EntryOverVars (nthIndex (isAbove vars) es 0))
+        above-first e = rw (le-ltb maxEntries (length es) short, ended, le-ltb maxClauses (count isZero es) few, e)
+
+        pub list-first : any (isAbove vars) es ≡ false → firstOf (listRules es vars) ≡ none
+        list-first e = rw (le-ltb maxEntries (length es) short, ended, le-ltb maxClauses (count isZero es) few, e)

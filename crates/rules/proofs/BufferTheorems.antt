@@ -8,18 +8,17 @@
 --   length-statusAfter, length-logAfter     the buffers keep their lengths
 --
 -- Assumes nothing.
-use mathlib.Core.Path.{_≡_, refl, sym, _∙_, ap}
-use mathlib.Core.Logic.{_≢_, _⊎_, inl, inr}
-use mathlib.Core.List.{List, [], _∷_, _++_, map, append-assoc}
-use mathlib.Core.Option.{Option, none, some}
-use Prim.Native.Nat.{ℕ, zero, suc, _+_, _-_, _*_, _≤_, _<_}
+use mathlib.Core.Path.{_≡_, refl, sym, _∙_}
+use mathlib.Core.List.{List, [], _∷_, _++_, map}
+use mathlib.Core.Option.{none}
+use Prim.Native.Nat.{ℕ, _+_, _-_, _*_, _≤_}
 use native.Mathlib.Omega.{arith}
 use lib.ListN.{length, take, drop, replicate, length-append, length-drop, length-replicate}
 use lib.Seq.{take-at, drop-at}
 use Rattle.rules.specs.declared.RunAnswer.{RunAnswer}
 use Rattle.rules.specs.declared.Report.{Report}
 use Rattle.rules.specs.Lists.{joined}
-use Rattle.rules.specs.Run.{Task, Row, run}
+use Rattle.rules.specs.Run.{Row, run}
 use Rattle.rules.specs.Answer.{Given, logLength, refusalOf, taskOf, reportOf, statusAfter, rowNumbers, logOfRows, logAfter, Runs}
 use Rattle.rules.specs.RunRefusals.{Accepted, RunRefuses}
 use Rattle.rules.proofs.RunTheorems.{run-statuses}
@@ -36,7 +35,8 @@ runs-unique p q = (p .result-is ∙ sym (q .result-is), p .status-is ∙ sym (q 
 
 -- ---- refused
 
-pub refused-writes-nothing : (g : Given) (a : RunAnswer) → RunRefuses g a → (reportOf g ≡ record { answer = a; calls = 0; tries = 0; forced = 0; free = 0 }) × (statusAfter g ≡ g .status) × (logAfter g ≡ g .log)
+pub refused-writes-nothing : (g : Given) (a : RunAnswer) → RunRefuses g a
+    → (reportOf g ≡ record { answer = a; calls = 0; tries = 0; forced = 0; free = 0 }) × (statusAfter g ≡ g .status) × (logAfter g ≡ g .log)
 unfolding reportOf statusAfter logAfter
 refused-writes-nothing g a h = let e = run-refused g a .1 h in (rw e, rw e, rw e)
 
@@ -79,22 +79,33 @@ module _ (g : Given) (w : Accepted g) where
   pub status-written : (take (g .vars) (statusAfter g) ≡ run (taskOf g) .progress .statuses) × (drop (g .vars) (statusAfter g) ≡ drop (g .vars) (g .status))
   unfolding statuses
   status-written =
-      rw statusAfter-is (take-at statuses (drop (g .vars) (g .status)) (g .vars) length-statuses, drop-at statuses (drop (g .vars) (g .status)) (g .vars) length-statuses)
+      rw statusAfter-is (
+        take-at statuses (drop (g .vars) (g .status)) (g .vars) length-statuses,
+        drop-at statuses (drop (g .vars) (g .status)) (g .vars) length-statuses,
+      )
 
   length-log : length (logOfRows (g .vars) rows) ≡ logLength (g .vars)
   length-log =
       length-append (joined (map rowNumbers rows)) (replicate (logLength (g .vars) - 6 * length rows) 0) ∙
       omega (arith, length-rows rows, length-replicate {A = ℕ} (logLength (g .vars) - 6 * length rows) 0, rows-le)
 
-  pub log-written : (take (logLength (g .vars)) (logAfter g) ≡ logOfRows (g .vars) (run (taskOf g) .progress .rows)) × (drop (logLength (g .vars)) (logAfter g) ≡ drop (logLength (g .vars)) (g .log))
+  pub log-written : (take (logLength (g .vars)) (logAfter g) ≡ logOfRows (g .vars) (run (taskOf g) .progress .rows))
+      × (drop (logLength (g .vars)) (logAfter g) ≡ drop (logLength (g .vars)) (g .log))
   unfolding rows
   log-written =
-      rw logAfter-is (take-at (logOfRows (g .vars) rows) (drop (logLength (g .vars)) (g .log)) (logLength (g .vars)) length-log, drop-at (logOfRows (g .vars) rows) (drop (logLength (g .vars)) (g .log)) (logLength (g .vars)) length-log)
+      rw logAfter-is (
+        take-at (logOfRows (g .vars) rows) (drop (logLength (g .vars)) (g .log)) (logLength (g .vars)) length-log,
+        drop-at (logOfRows (g .vars) rows) (drop (logLength (g .vars)) (g .log)) (logLength (g .vars)) length-log,
+      )
 
   pub length-statusAfter : length (statusAfter g) ≡ length (g .status)
   length-statusAfter =
-      rw statusAfter-is (length-append statuses (drop (g .vars) (g .status)) ∙ omega (arith, length-statuses, length-drop (g .vars) (g .status), w .listed .lent .status-fits))
+      rw statusAfter-is
+      (length-append statuses (drop (g .vars) (g .status)) ∙
+      omega (arith, length-statuses, length-drop (g .vars) (g .status), w .listed .lent .status-fits))
 
   pub length-logAfter : length (logAfter g) ≡ length (g .log)
   length-logAfter =
-      rw logAfter-is (length-append (logOfRows (g .vars) rows) (drop (logLength (g .vars)) (g .log)) ∙ omega (arith, length-log, length-drop (logLength (g .vars)) (g .log), w .listed .lent .log-fits))
+      rw logAfter-is
+      (length-append (logOfRows (g .vars) rows) (drop (logLength (g .vars)) (g .log)) ∙
+      omega (arith, length-log, length-drop (logLength (g .vars)) (g .log), w .listed .lent .log-fits))

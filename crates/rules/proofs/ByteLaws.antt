@@ -11,7 +11,7 @@
 -- Assumes nothing.
 use mathlib.Core.Path.{_≡_, refl, sym, subst}
 use mathlib.Core.Logic.{_⊎_, inl, inr}
-use mathlib.Core.Bool.{Bool, true, false, _||_}
+use mathlib.Core.Bool.{true, false, _||_}
 use mathlib.Core.List.{List, [], _∷_, _++_, append-nil, append-assoc}
 use Prim.Native.Nat.{ℕ, zero, suc, _+_, _-_, _*_, _≤_}
 use native.Mathlib.Omega.{arith}
@@ -24,7 +24,8 @@ use Rattle.rules.specs.Text.{isLf, isGap, isBlank, isDigit, valueFrom, n
 use Rattle.rules.specs.Reading.{isZero}
 use Rattle.rules.specs.Grammar.{IsBlank, IsGap, Blanks, NoLf, Gap, Digits, no-digits, digit-behind}
 use Rattle.rules.proofs.Quoted.{quoted}
-use Rattle.rules.proofs.ListLaws.{never, not-true, and-left, and-right, any-of-none, none-of-any, all-sound, all-complete, all-append-of, eqz-sound}
+use Rattle.rules.proofs.ListLaws.{never, not-true, and-left, and-right, any-of-none, none-of-any}
+use Rattle.rules.proofs.ListLaws.{all-sound, all-complete, all-append-of, eqz-sound, or-cases}
 use Rattle.rules.proofs.DecimalLaws.{valueFrom-snoc}
 
 -- ---- all bytes
@@ -37,14 +38,11 @@ upFrom i (suc n) = i ∷ upFrom (suc i) n
 abbrev pub bytes : List ℕ
 bytes = upFrom 0 256
 
-pub byte-table : (keep isBlank bytes ≡ quoted "\t\n\r ") × (keep isGap bytes ≡ quoted "\t ") × (keep isLf bytes ≡ quoted "\n") × (keep isDigit bytes ≡ quoted "0123456789") × (keep (λ b. isComment (b ∷ [])) bytes ≡ quoted "c")
+pub byte-table : (keep isBlank bytes ≡ quoted "\t\n\r ") × (keep isGap bytes ≡ quoted "\t ") × (keep isLf bytes ≡ quoted "\n")
+    × (keep isDigit bytes ≡ quoted "0123456789") × (keep (λ b. isComment (b ∷ [])) bytes ≡ quoted "c")
 byte-table = (refl, refl, refl, refl, refl)
 
 -- ---- one byte
-
-or-cases : (a b : Bool) → (a || b) ≡ true → (a ≡ true) ⊎ (b ≡ true)
-or-cases true b h = inl refl
-or-cases false b h = inr h
 
 pub gap-sound : (b : ℕ) → isGap b ≡ true → IsGap b
 gap-sound b h = go (or-cases (eqb b 32) (eqb b 9) h)

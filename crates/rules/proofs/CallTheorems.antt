@@ -7,26 +7,25 @@
 --   stopped-spent     a run is stopped only if the budget is spent
 --
 -- Assumes nothing.
-use mathlib.Core.Path.{_≡_, refl, sym, _∙_, ap}
-use mathlib.Core.Logic.{_≢_, _⊎_, inl, inr}
-use mathlib.Core.List.{List, [], _∷_, _++_}
-use Prim.Native.Nat.{ℕ, zero, suc, _+_, _≤_, _<_, min}
+use mathlib.Core.Path.{_≡_, refl, sym}
+use mathlib.Core.List.{[], _∷_}
+use Prim.Native.Nat.{ℕ, _+_, _≤_}
 use native.Mathlib.Omega.{arith}
 use lib.ListN.{length, replicate, length-append}
 use Rattle.rules.specs.declared.Outcome.{Outcome}
 use Rattle.rules.specs.declared.RunAnswer.{RunAnswer}
 use Rattle.rules.specs.Lists.{count}
-use Rattle.rules.specs.Search.{Call, model, no-model, stopped}
-use Rattle.rules.specs.Run.{Task, Row, Progress, statusAt, opens, rowAfter, afterNone, afterStop, Ended, begun, firstCall, chunkCall, run}
+use Rattle.rules.specs.Run.{Task, rowAfter, Ended, begun, run}
 use Rattle.rules.specs.Answer.{isFree, isForced}
 use Rattle.rules.specs.Log.{LogOf}
-use Rattle.rules.proofs.SearchLaws.{Metered}
-use Rattle.rules.specs.Trace.{Reached, Ends, first-none, first-stopped, settled, next-stopped}
+use Rattle.rules.specs.Trace.{Ends, first-none, first-stopped, settled, next-stopped}
+use Rattle.rules.proofs.ListLaws.{apart}
 use Rattle.rules.proofs.RunTrace.{run-ends}
 use Rattle.rules.proofs.LogLaws.{LogAt, blank-counts, first-metered, chunk-metered, log-begun, log-counts, stop-log, logged, calls-opens-le, tries-le}
 
 -- the one row of a first call that finds no model
-first-log : (k : Task) (o : Outcome) (t : ℕ) → LogOf (rowAfter (begun k []) o 0 0 0 t ∷ []) (count isFree (replicate (k .vars) 0)) (count isForced (replicate (k .vars) 0)) t
+first-log : (k : Task) (o : Outcome) (t : ℕ)
+    → LogOf (rowAfter (begun k []) o 0 0 0 t ∷ []) (count isFree (replicate (k .vars) 0)) (count isForced (replicate (k .vars) 0)) t
 first-log k o t =
     let (a, b, z) = blank-counts (k .vars) in
     log-counts (sym a) (sym b) (omega arith) (log-begun (rowAfter (begun k []) o 0 0 0 t) refl)
@@ -67,15 +66,15 @@ module _ (k : Task) (limit : 1 ≤ k .limit) where
       go : {e : Ended} → Ends k e → e .answer ≡ RunAnswer.NoModel → (e .progress .statuses ≡ replicate (k .vars) 0) × (length (e .progress .rows) ≡ 1)
       go (first-none t e) z = (refl, refl)
       go (first-stopped t e) z = (refl, refl)
-      go (settled r o) z = absurd (let y : _≡_ {A = ℕ} 0 1 = cc in omega arith)
-      go (next-stopped t r o e) z = absurd (let y : _≡_ {A = ℕ} 0 1 = cc in omega arith)
+      go (settled r o) z = apart cc
+      go (next-stopped t r o e) z = apart cc
 
   pub stopped-spent : run k .answer ≡ RunAnswer.Stopped → run k .progress .tries ≡ k .budget
   stopped-spent = go (run-ends k limit)
     where
       go : {e : Ended} → Ends k e → e .answer ≡ RunAnswer.Stopped → e .progress .tries ≡ k .budget
-      go (first-none t e) z = absurd (let y : _≡_ {A = ℕ} 0 1 = cc in omega arith)
+      go (first-none t e) z = apart cc
       go (first-stopped t e) z = omega (arith, first-metered k .spent t e, rw e at (first-metered k .within (omega arith)))
-      go (settled r o) z = absurd (let y : _≡_ {A = ℕ} 0 1 = cc in omega arith)
+      go (settled r o) z = apart cc
       go (next-stopped {chunk = chunk} {p = p} t r o e) z =
           omega (arith, chunk-metered k p chunk .spent t e, rw e at (chunk-metered k p chunk .within (tries-le r)))

@@ -2,6 +2,7 @@
 -- for models, what it ends in, and the page's own words for it, "rounds until one sets nothing, or stops", as an equation without
 -- a bound on the rounds.
 --
+--   round-at-false                a round that has stopped stays so
 --   Went, After, round-after      what a round makes of the values extends them, and it counts what it sets
 --   closing-rec                   an induction for closing: a round that stops, that sets nothing, or that sets something first
 --   closeIn-enough                more rounds than there are unset variables change nothing
@@ -27,7 +28,8 @@ use Rattle.rules.specs.Models.{Extends}
 use Rattle.rules.specs.Visits.{Quiet}
 use Rattle.rules.proofs.ListLaws.{and-left, and-right}
 use Rattle.rules.proofs.MeaningLaws.{proper-assign, extends-refl, extends-trans, extends-assign, assign-extends, unsets-assign}
-pub use Rattle.rules.proofs.StateLaws.{AllFalse, OneUnset, TwoUnset, Means, means, state-unique, unit-sound, false-sound, Calm, calm-of-quiet, quiet-of-calm}
+pub use Rattle.rules.proofs.StateLaws.{AllFalse, OneUnset, TwoUnset, Means, means, state-unique}
+pub use Rattle.rules.proofs.StateLaws.{unit-sound, false-sound, Calm, calm-of-quiet, quiet-of-calm}
 
 -- ---- a round: what it makes of the values extends them, and it counts what it sets
 
@@ -44,7 +46,7 @@ abbrev pub After : List Clause → Values → ℕ → Round → Type 0
 After cls vs n (under-way ws k) = Went cls vs n ws k
 After cls vs n at-false = Prim.Unit {0}
 
-round-at-false : (cls : List Clause) → round cls at-false ≡ at-false
+pub round-at-false : (cls : List Clause) → round cls at-false ≡ at-false
 round-at-false [] = refl
 round-at-false (cl ∷ cls) = round-at-false cls
 

@@ -27,7 +27,8 @@ use Rattle.rules.specs.Closing.{stateOf, Round, under-way, at-false, met
 use Rattle.rules.specs.Models.{Extends, Covers}
 use Rattle.rules.specs.Visits.{Visits, start, unit, Quiet}
 use Rattle.rules.proofs.ListLaws.{both, never, not-true, any-sound, none-of-any, eqz-sound, eqz-complete}
-use Rattle.rules.proofs.MeaningLaws.{proper-assign, set-elim, extends-refl, extends-trans, extends-antisym, extends-assign, false-byte, not-true-of-false}
+use Rattle.rules.proofs.MeaningLaws.{proper-assign, set-elim, extends-refl, extends-trans}
+use Rattle.rules.proofs.MeaningLaws.{extends-antisym, extends-assign, false-byte, not-true-of-false}
 use Rattle.rules.proofs.ClosingLaws.{OneUnset, AllFalse, Means, means, Calm, calm-of-quiet, closing-rec, Ends, closing-ends}
 
 -- ---- closing is one order of visits

@@ -1,7 +1,6 @@
 -- The laws of `cut` and of pieces with their places (specs/Lists, specs/Text). A relation says how a list falls into pieces,
 -- another one how a text falls into words; each holds of exactly what is computed, so a proof goes by its cases.
 --
---   or-left, or-right             both halves of a false `||`
 --   nil-not-append                a list with an element in it is not empty
 --   cut-none, cut-piece           cut of a list where none passes; of a piece, an element that passes, and a rest
 --   Cut, cut-exists, cut-unique   the pieces of a list: the cut is such, and there is no other
@@ -13,26 +12,18 @@
 --
 -- Assumes nothing.
 use mathlib.Core.Path.{_≡_, refl, sym, _∙_, ap, ap₂, subst}
-use mathlib.Core.Bool.{Bool, true, false, not, _||_}
+use mathlib.Core.Bool.{Bool, true, false, not}
 use mathlib.Core.List.{List, [], _∷_, _++_, map, append-nil, append-assoc}
 use Prim.Native.Nat.{ℕ, suc, _+_, _≤_}
 use native.Mathlib.Omega.{arith}
 use lib.ListN.{length}
 use Rattle.rules.specs.Lists.{any, all, keep, onto, cut, cutIf}
 use Rattle.rules.specs.Text.{Piece, isEmpty, placedFrom}
-use Rattle.rules.proofs.ListLaws.{never, and-left, and-right}
-
-pub or-left : (a b : Bool) → (a || b) ≡ false → a ≡ false
-or-left true b h = h
-or-left false b h = refl
-
-pub or-right : (a b : Bool) → (a || b) ≡ false → b ≡ false
-or-right true b h = absurd (never refl h)
-or-right false b h = h
+use Rattle.rules.proofs.ListLaws.{apart, and-left, and-right, or-left, or-right}
 
 pub nil-not-append : {A : Type 0} (xs : List A) (y : A) (ys : List A) → [] ≡ xs ++ y ∷ ys → ⊥
-nil-not-append [] y ys e = let z : _≡_ {A = ℕ} 0 1 = cc in omega arith
-nil-not-append (x ∷ xs) y ys e = let z : _≡_ {A = ℕ} 0 1 = cc in omega arith
+nil-not-append [] y ys e = apart cc
+nil-not-append (x ∷ xs) y ys e = apart cc
 
 -- ---- cut
 

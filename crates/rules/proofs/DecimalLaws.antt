@@ -101,7 +101,8 @@ decimal-some =
 pub decimal-most : (k n : ℕ) → 1 ≤ k → n < 10 ^ k → length (decimal n) ≤ k
 decimal-most k n p h = decimal-ind (λ m ds. (j : ℕ) → 1 ≤ j → m < 10 ^ j → length ds ≤ j) (λ m s j q l. q) more n k p h
   where
-    more : (m : ℕ) (ds : List ℕ) → 10 ≤ m → ((j : ℕ) → 1 ≤ j → m / 10 < 10 ^ j → length ds ≤ j) → (j : ℕ) → 1 ≤ j → m < 10 ^ j → length (ds ++ (digit (m % 10) ∷ [])) ≤ j
+    more : (m : ℕ) (ds : List ℕ) → 10 ≤ m → ((j : ℕ) → 1 ≤ j → m / 10 < 10 ^ j → length ds ≤ j)
+        → (j : ℕ) → 1 ≤ j → m < 10 ^ j → length (ds ++ (digit (m % 10) ∷ [])) ≤ j
     more m ds s ih zero q l = absurd (omega arith)
     more m ds s ih (suc zero) q l = absurd (omega arith)
     more m ds s ih (suc (suc j)) q l =

@@ -113,7 +113,8 @@ text-edges = refl
 abbrev entry4097 : ℕ → String → Judged
 entry4097 k s = judgeTokens (record { vars = 1; clauses = 1 }) 8203 k 4096 (tokensFrom 8202 (quoted s))
 
-pub entry-order : (entry4097 0 "1" ≡ refused (ReadAnswer.ManyTokens 8202)) × (entry4097 0 "x" ≡ refused (ReadAnswer.BadToken 8202)) × (entry4097 1 "1" ≡ refused (ReadAnswer.TokenBehind 8202)) × (entry4097 0 "2" ≡ refused (ReadAnswer.TokenOverVars 8202))
+pub entry-order : (entry4097 0 "1" ≡ refused (ReadAnswer.ManyTokens 8202)) × (entry4097 0 "x" ≡ refused (ReadAnswer.BadToken 8202))
+    × (entry4097 1 "1" ≡ refused (ReadAnswer.TokenBehind 8202)) × (entry4097 0 "2" ≡ refused (ReadAnswer.TokenOverVars 8202))
 unfolding tokensFrom judgeTokens entryOf numeral
 entry-order = (refl, refl, refl, refl)
 

@@ -21,11 +21,12 @@ use Rattle.rules.specs.Lists.{any, count, countIf}
 use Rattle.rules.specs.Numbers.{maxEntries}
 use Rattle.rules.specs.Text.{isLf, isBlank, Piece, Sizes, tokensFrom}
 use Rattle.rules.specs.Reading.{accepted, isZero, behind, judge}
-use Rattle.rules.specs.Grammar.{Before, Header, Ended, at-end, at-blank, Body, blanks, token, Text, header-only, with-body, ClausesOf, no-clause, clause, Dimacs}
+use Rattle.rules.specs.Grammar.{Before, Header, Ended, at-end, at-blank, Body, blanks, token, Text}
+use Rattle.rules.specs.Grammar.{header-only, with-body, ClausesOf, no-clause, clause, Dimacs}
 use Rattle.rules.specs.Refusals.{FirstLine, Say, nothing, one-more}
-use Rattle.rules.proofs.ListLaws.{count-append, eqz-sound}
+use Rattle.rules.proofs.ListLaws.{count-append, eqz-sound, or-left, or-right}
 use Rattle.rules.proofs.ByteLaws.{blank-sound, blank-complete, blanks-sound, blanks-complete, noZero-sound, noZero-complete}
-use Rattle.rules.proofs.CutLaws.{or-left, or-right, nil-not-append, Stops, Words, words-exists, words-unique}
+use Rattle.rules.proofs.CutLaws.{nil-not-append, Stops, Words, words-exists, words-unique}
 use Rattle.rules.proofs.TokenLaws.{word-of-token}
 use Rattle.rules.proofs.HeaderLaws.{header-not-skipped, header-no-lf}
 use Rattle.rules.proofs.LineLaws.{Front, first-line-sound, first-line-complete, drop-behind}
@@ -92,8 +93,12 @@ body-of-say at xs y = body-of-words (words-exists isBlank at xs) y
 words-of-body : (at : ℕ) {xs : List ℕ} {es : List ℤ} → Body xs es → (ts : List Piece) × Words isBlank at xs ts × Say ts es
 words-of-body at (blanks h) = ([], Words.none (blanks-complete h), nothing)
 words-of-body at (token {bs} {w} h t e b) =
-    let later = words-of-body (at + length bs + length w) b in
-    (record { at = at + length bs; bytes = w } ∷ later .0, Words.word bs (blanks-complete h) (word-of-token t) refl refl (stops-of-ended e) (later .1), one-more t (later .2))
+    let later = words-of-body (at + length bs + length w) b in (
+      record { at = at + length bs; bytes = w } ∷
+          later .0,
+      Words.word bs (blanks-complete h) (word-of-token t) refl refl (stops-of-ended e) (later .1),
+      one-more t (later .2),
+    )
 
 pub say-of-body : (at : ℕ) {xs : List ℕ} {es : List ℤ} → Body xs es → Say (tokensFrom at xs) es
 unfolding tokensFrom
@@ -136,9 +141,11 @@ text-of-parts {text} {vars} {clauses} {es} p = go (p .rest) (p .stops) (p .is-te
   where
     go : (rest : List ℕ) → Stops isLf rest → text ≡ p .front ++ p .line ++ rest → Body (drop 1 rest) es → Text text vars clauses es
     go [] Stops.at-end e y =
-        subst₂ (λ (t : List ℕ) (xs : List ℤ). Text t vars clauses xs) (sym (e ∙ append-nil (p .front ++ p .line))) (no-entries y refl) (header-only (p .before) (p .is-header))
+        subst₂ (λ (t : List ℕ) (xs : List ℤ). Text t vars clauses xs) (sym (e ∙ append-nil (p .front ++ p .line))) (no-entries y refl)
+        (header-only (p .before) (p .is-header))
     go (b ∷ bs) (Stops.at-one h) e y =
-        subst (λ (t : List ℕ). Text t vars clauses es) (sym (e ∙ ap (λ (z : ℕ). p .front ++ p .line ++ z ∷ bs) (eqb-true b 10 h))) (with-body (p .before) (p .is-header) y)
+        subst (λ (t : List ℕ). Text t vars clauses es) (sym (e ∙ ap (λ (z : ℕ). p .front ++ p .line ++ z ∷ bs) (eqb-true b 10 h)))
+        (with-body (p .before) (p .is-header) y)
 
 -- ---- the theorem
 
@@ -167,7 +174,9 @@ dimacs-of-whole {text} {s} {es} w =
           is-header = w .headed .is-header;
           stops = found .stops;
           is-text = found .is-text;
-          body = body-of-say (behind (w .line)) (drop 1 (found .rest)) (subst (λ (xs : List ℕ). Say (tokensFrom (behind (w .line)) xs) es) (drop-behind found) (w .fine .say));
+          body =
+              body-of-say (behind (w .line)) (drop 1 (found .rest))
+              (subst (λ (xs : List ℕ). Say (tokensFrom (behind (w .line)) xs) es) (drop-behind found) (w .fine .say));
         }
 
 pub whole-of-dimacs : {room : ℕ} {text : List ℕ} {vars clauses : ℕ} {es : List ℤ} → maxEntries ≤ room → Dimacs text vars clauses es

@@ -14,12 +14,16 @@ use native.Mathlib.Omega.{arith}
 use lib.ListN.{length, length-append}
 use borrow.Author.Tests.{ne-eqb}
 use Rattle.rules.specs.Lists.{any, all, keep, cut, eqs}
-use Rattle.rules.specs.Text.{isLf, isGap, isBlank, isDigit, isEmpty, isNumeral, numeral, Piece, isSkipped, Sizes, trimIf, trimmed, sizesIf, sizesOf, wordsOf, headerOf}
+use Rattle.rules.specs.Text.{isLf, isGap, isBlank, isDigit, isEmpty, isNumeral, numeral, Piece}
+use Rattle.rules.specs.Text.{isSkipped, Sizes, trimIf, trimmed, sizesIf, sizesOf, wordsOf, headerOf}
 use Rattle.rules.specs.Grammar.{NoLf, Gap, Numeral, Header, header}
-use Rattle.rules.proofs.ListLaws.{never, and-left, and-right, all-append-of, eqs-sound}
+use Rattle.rules.proofs.ListLaws.{never, and-left, and-right, all-append-of, eqs-sound, or-left, or-right}
 use Rattle.rules.proofs.ByteLaws.{blanks-sound, blanks-complete, gaps-sound, gaps-complete, noLf-sound, noLf-complete}
-use Rattle.rules.proofs.CutLaws.{or-left, or-right, Cut, last, piece, cut-exists, cut-piece, Stops, at-end, at-one, Word, Words, none, word, placedWords, words-of-cut, words-unique, bytes-placedWords}
-use Rattle.rules.proofs.TokenLaws.{not-none, none-of-not, all-mono, any-of-all, any-append-of, any-append-right, blank-of-gap, digit-above, not-gap-of-digit, not-lf-of-gap, numeral-sound, numeral-digits, numeral-says, numeral-complete, word-of-numeral}
+use Rattle.rules.proofs.CutLaws.{Cut, last, piece, cut-exists, cut-piece, Stops, at-end, at-one}
+use Rattle.rules.proofs.CutLaws.{Word, Words, none, word, placedWords, words-of-cut, words-unique, bytes-placedWords}
+use Rattle.rules.proofs.TokenLaws.{not-none, none-of-not, all-mono, any-of-all, any-append-of, any-append-right}
+use Rattle.rules.proofs.TokenLaws.{blank-of-gap, digit-above, not-gap-of-digit, not-lf-of-gap, numeral-sound}
+use Rattle.rules.proofs.TokenLaws.{numeral-digits, numeral-says, numeral-complete, word-of-numeral}
 
 -- ---- the blanks behind a line
 
@@ -159,7 +163,8 @@ header-complete {vars} {clauses} (header {g = y ∷ g} {h} {k} {v} {c} {end} gg 
     three : (ts : List Piece) × Words isGap 0 rest ts × (map (λ (t : Piece). t .bytes) ts ≡ cnf-word ∷ v ∷ c ∷ [])
     three = (
       _,
-      word g {w = cnf-word} (and-right (isGap y) (all isGap g) (gaps-complete gg)) (record { some = omega arith; none = refl }) refl refl (stops-of-gap v (k ++ c ++ []) gh)
+      word g {w = cnf-word} (and-right (isGap y) (all isGap g) (gaps-complete gg)) (record { some = omega arith; none = refl }) refl refl
+          (stops-of-gap v (k ++ c ++ []) gh)
           (word h (gaps-complete gh) (gap-word-of-numeral nv) refl refl (stops-of-gap c [] gk)
           (word k (gaps-complete gk) (gap-word-of-numeral nc) refl refl at-end (none refl))),
       refl,

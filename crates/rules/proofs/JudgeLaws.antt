@@ -16,10 +16,10 @@ use mathlib.Core.List.{List, [], _∷_, _++_, append-nil, List·Memᴰ·head, Li
 use mathlib.Core.Option.{Option, none, some}
 use Prim.Native.Nat.{ℕ, suc, _+_, _≤_, _<_}
 use native.Mathlib.Omega.{arith}
-use lib.Dec.{leb, ltb}
+use lib.Dec.{ltb}
 use lib.IntN.{ℤ}
 use lib.ListN.{length}
-use borrow.Author.Tests.{leb-true, leb-false, le-leb, lt-leb, lt-ltb, le-ltb}
+use borrow.Author.Tests.{le-leb, lt-leb, lt-ltb, le-ltb}
 use Rattle.rules.specs.declared.ReadAnswer.{ReadAnswer}
 use Rattle.rules.specs.Lists.{In, count, countIf}
 use Rattle.rules.specs.Numbers.{maxEntries}
@@ -63,7 +63,12 @@ module _ {s : Sizes} where
   not-behind-of-passes (pass w f p) [] l back e = omega (arith, f .not-behind)
   not-behind-of-passes {k} (pass {l = x} w f p) (y ∷ front) l back e =
       let same : x ≡ y = cc in
-      omega (arith, not-behind-of-passes p front l back (cc), countIf-add (isZero x) k (count isZero front), ap (λ (z : ℤ). countIf (isZero z) (count isZero front)) same)
+      omega (
+        arith,
+        not-behind-of-passes p front l back (cc),
+        countIf-add (isZero x) k (count isZero front),
+        ap (λ (z : ℤ). countIf (isZero z) (count isZero front)) same,
+      )
 
   up-to-of-passes : {k n : ℕ} {ts : List Piece} {es : List ℤ} → Passes s k n ts es → (l : ℤ) → In l es → varOf l ≤ s .vars
   up-to-of-passes passed l i = absurd (List·Memᴰ·not-nil i)
@@ -203,7 +208,8 @@ module _ (s : Sizes) (end : ℕ) where
   judgeTokens-passes {k} {n} rest passed = ap₂ (λ (i j : ℕ). judgeTokens s end i j rest) (omega arith) (omega arith)
   judgeTokens-passes {k} {n} rest (pass {t} {ts} {l} {es} w f p) =
       rw (entry-complete w, lt-leb (s .clauses) k (f .not-behind), le-ltb (s .vars) (varOf l) (f .up-to), lt-leb maxEntries n (f .most))
-      (ap (withEntry l) (judgeTokens-passes rest p ∙ ap₂ (λ (i j : ℕ). withEntries es (judgeTokens s end i j rest)) (countIf-add (isZero l) k (count isZero es)) (omega arith)))
+      (ap (withEntry l) (judgeTokens-passes rest p ∙
+      ap₂ (λ (i j : ℕ). withEntries es (judgeTokens s end i j rest)) (countIf-add (isZero l) k (count isZero es)) (omega arith)))
 
   judgeTokens-stop : {k n : ℕ} {t : Piece} {a : ReadAnswer} (ts : List Piece) → Stop s k n t a → judgeTokens s end k n (t ∷ ts) ≡ refused a
   unfolding judgeTokens

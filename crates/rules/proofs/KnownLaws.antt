@@ -14,25 +14,24 @@
 use mathlib.Core.Path.{_≡_, refl, sym, _∙_, ap}
 use mathlib.Core.Logic.{_≢_, _⊎_, inl, inr}
 use mathlib.Core.Bool.{Bool, true, false, not}
-use mathlib.Core.List.{List, [], _∷_, _++_, map, List·Memᴰ·head, List·Memᴰ·tail, List·Memᴰ·not-nil, List·Memᴰ·append-cases, List·Memᴰ·eq-of-singleton, Memᴰ·append-left, Memᴰ·append-right}
-use Prim.Native.Nat.{ℕ, zero, suc, _+_, _-_, _≤_, _<_, min}
+use mathlib.Core.List.{List, [], _∷_, _++_, List·Memᴰ·append-cases, List·Memᴰ·eq-of-singleton, Memᴰ·append-left}
+use Prim.Native.Nat.{ℕ, zero, suc, _+_, _≤_, _<_}
 use native.Mathlib.Omega.{arith}
 use native.Mathlib.Nat.{zero-add}
 use lib.IntN.{ℤ}
 use lib.Dec.{eqb}
-use lib.ListN.{length, getD, set, take, replicate, length-replicate, getD-replicate, length-set, List·getD-eq-default}
+use lib.ListN.{length, take, length-set, List·getD-eq-default}
 use lib.Seq.{getD-set-same}
-use borrow.Author.Tests.{eqb-true, eqb-false, eq-eqb, ne-eqb}
-use Rattle.rules.specs.declared.RunAnswer.{RunAnswer}
-use Rattle.rules.specs.Lists.{In, any, all}
-use Rattle.rules.specs.Meaning.{Clause, Values, valueAt, indexOf, trueByte, negated, isTrue, hasTrue, satisfies, Total, Model, Proper}
-use Rattle.rules.specs.Search.{Call, model, no-model, stopped, callOn}
-use Rattle.rules.specs.Models.{Extends, Witness, by-model, by-flip, LeastModel, NoModelFrom}
-use Rattle.rules.specs.Run.{Task, Row, Progress, statusAt, opens, literalAt, candidatesFrom, freedFrom, differs, otherByte, flipped, canFlip, compared, flips, forcedBy, forceFirst, blank, forcedValue, forcedValues, chunkOf, constraint, chunkCall, afterModel, afterNone, afterStop, Ended, endedBy, begun, firstCall}
-use Rattle.rules.proofs.ListLaws.{both, never, any-sound, any-complete, and-left, in-map}
-use Rattle.rules.proofs.MeaningLaws.{set-cases, blank-proper, blank-extends, satisfies-append, satisfies-left, satisfies-right}
-use Rattle.rules.proofs.SearchLaws.{Says, callOn-says}
-use Rattle.rules.proofs.StatusLaws.{length-freedFrom, freed-at, candidate-open, literalAt-true, literalAt-negated, length-forceFirst, forceFirst-at, length-forcedValues, forcedValues-at, forcedValue-forcedBy, forcedValue-le}
+use borrow.Author.Tests.{eqb-true, eqb-false, eq-eqb}
+use Rattle.rules.specs.Lists.{In}
+use Rattle.rules.specs.Meaning.{Clause, Values, valueAt, indexOf, trueByte, negated, isTrue, hasTrue, Model, Proper}
+use Rattle.rules.specs.Models.{Extends, Witness, by-model, by-flip, NoModelFrom}
+use Rattle.rules.specs.Run.{Task, statusAt, literalAt, candidatesFrom, freedFrom, differs, otherByte, flipped}
+use Rattle.rules.specs.Run.{canFlip, compared, flips, forcedBy, forceFirst, forcedValue, forcedValues, constraint}
+use Rattle.rules.proofs.ListLaws.{both, never, any-complete, in-map}
+use Rattle.rules.proofs.MeaningLaws.{set-cases, satisfies-append}
+use Rattle.rules.proofs.StatusLaws.{length-freedFrom, freed-at, literalAt-negated, length-forceFirst}
+use Rattle.rules.proofs.StatusLaws.{SetCases, forceFirst-at, forcedValues-at, forcedValue-forcedBy, forcedValue-le}
 
 -- ---- what is known
 
@@ -53,14 +52,15 @@ module _ {k : Task} {first : Values} {models : List Values} {ss : List ℕ} (w :
   pub extends-forced : (m : Values) → Model (k .vars) (k .formula) m → Extends (forcedValues ss) m
   extends-forced m x = record { agrees = λ i h. go i (forcedValues-at ss i h) }
     where
-      go : (i : ℕ) → ((2 ≤ statusAt ss i) × (valueAt (forcedValues ss) i ≡ forcedValue (statusAt ss i))) ⊎ ((length ss ≤ i) × (valueAt (forcedValues ss) i ≡ 1)) → valueAt m i ≡ valueAt (forcedValues ss) i
+      go : (i : ℕ) → SetCases ss i → valueAt m i ≡ valueAt (forcedValues ss) i
       go i (inl (h, e)) = w .forced i h m x ∙ sym e
       go i (inr (h, e)) = List·getD-eq-default m 1 (omega (arith, w .len, x .len)) ∙ sym e
 
 -- ---- a model: what compare and flip drop is free
 
 -- freeing what passes, where all that pass have a witness
-known-freed : {k : Task} {first : Values} {models : List Values} {ss : List ℕ} (p : ℕ → Bool) → Known k first models ss → ((i : ℕ) → i < k .vars → p i ≡ true → Witness (k .vars) (k .formula) first models i) → Known k first models (freedFrom 0 p ss)
+known-freed : {k : Task} {first : Values} {models : List Values} {ss : List ℕ} (p : ℕ → Bool) → Known k first models ss
+    → ((i : ℕ) → i < k .vars → p i ≡ true → Witness (k .vars) (k .formula) first models i) → Known k first models (freedFrom 0 p ss)
 known-freed {k} {first} {models} {ss} p w witness =
     record {
       first-in = w .first-in;
@@ -78,7 +78,8 @@ known-freed {k} {first} {models} {ss} p w witness =
     small i (inl e) = rw e (w .small i)
     small i (inr (z, e, h)) = rw e (omega arith)
 
-    forced : (i : ℕ) → 2 ≤ statusAt (freedFrom 0 p ss) i → (m : Values) → Model (k .vars) (k .formula) m → Cases i → valueAt m i ≡ forcedValue (statusAt (freedFrom 0 p ss) i)
+    forced : (i : ℕ) → 2 ≤ statusAt (freedFrom 0 p ss) i → (m : Values) → Model (k .vars) (k .formula) m
+        → Cases i → valueAt m i ≡ forcedValue (statusAt (freedFrom 0 p ss) i)
     forced i h m x (inl e) = rw e (w .forced i (rw e at h) m x)
     forced i h m x (inr (z, e, q)) = absurd (omega arith)
 
@@ -99,7 +100,8 @@ flipped-model n F m i x h =
       all-true = h;
     }
   where
-    go : (j : ℕ) → ((j ≡ i) × (valueAt (flipped m i) j ≡ otherByte (valueAt m i))) ⊎ (valueAt (flipped m i) j ≡ valueAt m j) → (valueAt (flipped m i) j ≡ 1) ⊎ (valueAt (flipped m i) j ≡ 2)
+    go : (j : ℕ) → ((j ≡ i) × (valueAt (flipped m i) j ≡ otherByte (valueAt m i))) ⊎ (valueAt (flipped m i) j ≡ valueAt m j)
+        → (valueAt (flipped m i) j ≡ 1) ⊎ (valueAt (flipped m i) j ≡ 2)
     go j (inl (e, q)) = rw q (otherByte-valued (valueAt m i) (x .total .valued i) .0)
     go j (inr q) = rw q (x .total .valued j)
 
@@ -119,11 +121,13 @@ module _ {n : ℕ} {F : List Clause} (first : Values) {models : List Values} {m 
       go (inr e) = by-model m h (eqb-false _ _ e)
 
 -- one more model
-witness-mono : {n : ℕ} {F : List Clause} {first : Values} {models more : List Values} {i : ℕ} → ((m : Values) → In m models → In m more) → Witness n F first models i → Witness n F first more i
+witness-mono : {n : ℕ} {F : List Clause} {first : Values} {models more : List Values} {i : ℕ}
+    → ((m : Values) → In m models → In m more) → Witness n F first models i → Witness n F first more i
 witness-mono s (by-model m h d) = by-model m (s m h) d
 witness-mono s (by-flip m h x d) = by-flip m (s m h) x d
 
-pub known-more : {k : Task} {first : Values} {models : List Values} {ss : List ℕ} (m : Values) → Model (k .vars) (k .formula) m → Known k first models ss → Known k first (models ++ (m ∷ [])) ss
+pub known-more : {k : Task} {first : Values} {models : List Values} {ss : List ℕ} (m : Values)
+    → Model (k .vars) (k .formula) m → Known k first models ss → Known k first (models ++ (m ∷ [])) ss
 known-more {k} {first} {models} {ss} m x w =
     record {
       first-in = Memᴰ·append-left (m ∷ []) (w .first-in);
@@ -139,7 +143,8 @@ known-more {k} {first} {models} {ss} m x w =
     go d (inr h) = rw (List·Memᴰ·eq-of-singleton h) x
 
 -- compare, then flip
-pub known-filtered : {k : Task} {first : Values} {models : List Values} {ss : List ℕ} (m : Values) → Model (k .vars) (k .formula) m → In m models → Known k first models ss → Known k first models (flips (k .formula) m (compared first m ss))
+pub known-filtered : {k : Task} {first : Values} {models : List Values} {ss : List ℕ} (m : Values) → Model (k .vars) (k .formula) m
+    → In m models → Known k first models ss → Known k first models (flips (k .formula) m (compared first m ss))
 known-filtered {k} {first} {models} {ss} m x h w =
     known-freed (canFlip (k .formula) m) (known-freed (differs first m) w (λ i l d. compare-witness first x h i d)) (λ i l c. flip-witness first x h i l c)
 
@@ -154,7 +159,9 @@ proper-forcedValues ss = record { small = λ i. go ss i }
     go (s ∷ ss) zero = forcedValue-le s
     go (s ∷ ss) (suc i) = go ss i
 
-pub known-none : {k : Task} {first : Values} {models : List Values} {ss : List ℕ} (n : ℕ) → Known k first models ss → NoModelFrom (k .formula ++ constraint (take n (candidatesFrom 0 first ss)) ∷ []) (forcedValues ss) → Known k first models (forceFirst first ss n)
+pub known-none : {k : Task} {first : Values} {models : List Values} {ss : List ℕ} (n : ℕ) → Known k first models ss
+    → NoModelFrom (k .formula ++ constraint (take n (candidatesFrom 0 first ss)) ∷ []) (forcedValues ss)
+    → Known k first models (forceFirst first ss n)
 known-none {k} {first} {models} {ss} n w none =
     record {
       first-in = w .first-in;
@@ -193,7 +200,8 @@ known-none {k} {first} {models} {ss} n w none =
         negated-true : valueAt m i ≢ valueAt first i → isTrue m (negated (literalAt (0 + i) (valueAt first i))) ≡ true
         negated-true d =
             let (a, t) = literalAt-negated (0 + i) (valueAt first i) (valued i) in
-            eq-eqb (valueAt m (indexOf (negated (literalAt (0 + i) (valueAt first i))))) (trueByte (negated (literalAt (0 + i) (valueAt first i)))) (rw (a, t, zero-add) (other (valueAt m i) (valueAt first i) (x .total .valued i) (valued i) d))
+            eq-eqb (valueAt m (indexOf (negated (literalAt (0 + i) (valueAt first i))))) (trueByte (negated (literalAt (0 + i) (valueAt first i))))
+            (rw (a, t, zero-add) (other (valueAt m i) (valueAt first i) (x .total .valued i) (valued i) d))
 
         go : (eqb (valueAt m i) (valueAt first i) ≡ true) ⊎ (eqb (valueAt m i) (valueAt first i) ≡ false) → valueAt m i ≡ valueAt first i
         go (inl e) = eqb-true _ _ e

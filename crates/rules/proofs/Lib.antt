@@ -1,5 +1,6 @@
 pub mod Quoted
 pub mod ListLaws
+pub mod BitLaws
 pub mod DecimalLaws
 pub mod ByteLaws
 pub mod CutLaws

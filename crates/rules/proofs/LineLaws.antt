@@ -99,7 +99,12 @@ placed-now : (at : ℕ) (bs : List ℕ) {rest : List ℕ} → NoLf bs → Stops 
 placed-now at bs n at-end =
     record { before = []; after = []; lines = ap (placedFrom at) (ap (cut isLf) (append-nil bs) ∙ cut-none isLf bs (noLf-complete n)); skipped = refl }
 placed-now at bs n (at-one {b = y} {bs = ys} e) =
-    record { before = []; after = placedFrom (at + length bs + 1) (cut isLf ys); lines = ap (placedFrom at) (cut-piece isLf bs y ys (noLf-complete n) e); skipped = refl }
+    record {
+      before = [];
+      after = placedFrom (at + length bs + 1) (cut isLf ys);
+      lines = ap (placedFrom at) (cut-piece isLf bs y ys (noLf-complete n) e);
+      skipped = refl;
+    }
 
 placed-later : {at next : ℕ} (bs text : List ℕ) {found : Piece} → Skipped bs → next ≡ at + length bs + 1 → Placed next text found
     → Placed at (bs ++ 10 ∷ text) found
@@ -115,7 +120,8 @@ placed-later {at} bs text k e p =
 
 placed-of-before : {front : List ℕ} (at next : ℕ) (bs : List ℕ) {rest : List ℕ} → Before front → next ≡ at + length front → NoLf bs
     → Stops isLf rest → Placed at (front ++ (bs ++ rest)) (record { at = next; bytes = bs })
-placed-of-before at next bs {rest} nothing e n s = subst (λ (i : ℕ). Placed i (bs ++ rest) (record { at = next; bytes = bs })) (omega arith) (placed-now next bs n s)
+placed-of-before at next bs {rest} nothing e n s =
+    subst (λ (i : ℕ). Placed i (bs ++ rest) (record { at = next; bytes = bs })) (omega arith) (placed-now next bs n s)
 placed-of-before at next bs {rest} (line {bs = cs} {rest = front} k b) e n s =
     subst (λ (t : List ℕ). Placed at t (record { at = next; bytes = bs })) (sym (append-assoc cs (10 ∷ front) (bs ++ rest)))
     (placed-later cs (front ++ (bs ++ rest)) k refl (placed-of-before (at + length cs + 1) next bs b (omega (arith, length-append cs (10 ∷ front))) n s))

@@ -1,16 +1,18 @@
 -- The laws of specs/Lists: what a test over a list says of its elements, and how tests, counts and sums go over `++` and over
 -- equal functions. A test is spoken of as `b ≡ true` and `b ≡ false`, so that `rw`, `cc` and `∙` work on it.
 --
+--   apart                         what follows where two constructors would be equal
 --   le-or-lt                      an order is decided
 --   both, never, not-true         a test is true or false, never both, and false if it cannot be true
 --   same-test                     two tests are the same if each follows from the other
 --   and-left, and-right           the two halves of `&&`
+--   or-cases, or-left, or-right   one half of `||`, and both where it is false
 --   any-sound, any-complete       any: one passes; none-of-any, any-of-none: no one passes
 --   all-sound, all-complete       all: each passes; all-false: one does not
 --   keep-sound, keep-complete     the kept are the elements that pass
 --   any-append, all-append, all-append-of, keep-append, count-append, sumOf-append     over `++`
 --   any-cong, all-cong, keep-cong, count-cong, sumOf-cong     functions that agree on the elements
---   length-keep, count-le, count-pos, count-split, count-zero, count-of-none     how many pass
+--   length-keep, count-le, count-pos, count-split, count-zero, count-of-none, any-of-count     how many pass
 --   in-getD, getD-in, getD-default     elements and indices; inside a list the default does not matter
 --   in-map, map-in, in-take       elements of map and take
 --   eqz-sound, eqz-refl, eqz-complete, eqz-other     two whole numbers are the same
@@ -30,6 +32,10 @@ use borrow.Author.Tests.{eqb-true, eq-eqb, leb-true, leb-false}
 use Rattle.rules.specs.Lists.{In, any, all, keep, keepIf, count, countIf, sumOf, eqz, eqs}
 
 -- ---- tests
+
+-- two constructors are never equal: from such an equation among the hypotheses `cc` shows 0 ≡ 1, so that `apart cc` closes any goal
+pub apart : {A : Type 0} → _≡_ {A = ℕ} 0 1 → A
+apart e = absurd (omega arith)
 
 pub le-or-lt : (a b : ℕ) → (a ≤ b) ⊎ (b < a)
 le-or-lt a b = go (leb a b) refl
@@ -62,6 +68,18 @@ and-left false b h = h
 pub and-right : (a b : Bool) → (a && b) ≡ true → b ≡ true
 and-right true b h = h
 and-right false b h = absurd (never h refl)
+
+pub or-cases : (a b : Bool) → (a || b) ≡ true → (a ≡ true) ⊎ (b ≡ true)
+or-cases true b h = inl refl
+or-cases false b h = inr h
+
+pub or-left : (a b : Bool) → (a || b) ≡ false → a ≡ false
+or-left true b h = h
+or-left false b h = refl
+
+pub or-right : (a b : Bool) → (a || b) ≡ false → b ≡ false
+or-right true b h = absurd (never refl h)
+or-right false b h = h
 
 module _ {A : Type 0} where
   -- ---- any
@@ -228,6 +246,13 @@ module _ {A : Type 0} where
   count-of-none p [] h = refl
   count-of-none p (x ∷ xs) h =
       rw (h x (List·Memᴰ·head refl)) (count-of-none p xs (λ y i. h y (List·Memᴰ·tail i)))
+
+  pub any-of-count : (p : A → Bool) (xs : List A) → 1 ≤ count p xs → any p xs ≡ true
+  any-of-count p xs h = go (both (any p xs))
+    where
+      go : (any p xs ≡ true) ⊎ (any p xs ≡ false) → any p xs ≡ true
+      go (inl e) = e
+      go (inr e) = absurd (omega (arith, count-of-none p xs (λ x i. none-of-any p e i)))
 
   -- ---- elements and indices
 

@@ -12,22 +12,21 @@
 -- Assumes nothing.
 use mathlib.Core.Path.{_≡_, refl, sym, _∙_, ap}
 use mathlib.Core.Logic.{_⊎_, inl, inr}
-use mathlib.Core.Bool.{Bool, true, false}
 use mathlib.Core.List.{List, [], _∷_, _++_, List·Memᴰ·append-cases, List·Memᴰ·eq-of-singleton, List·Memᴰ·not-nil}
-use Prim.Native.Nat.{ℕ, zero, suc, _+_, _-_, _≤_, _<_, min}
+use Prim.Native.Nat.{ℕ, zero, suc, _+_, _≤_, _<_}
 use native.Mathlib.Omega.{arith}
-use lib.ListN.{length, drop, replicate, length-append}
+use lib.ListN.{length, drop, length-append}
 use lib.Seq.{drop-append-le}
 use Rattle.rules.specs.declared.Outcome.{Outcome}
 use Rattle.rules.specs.Lists.{In, count, sumOf}
 use Rattle.rules.specs.Meaning.{Values}
-use Rattle.rules.specs.Search.{Call, model, no-model, stopped, triesOf}
-use Rattle.rules.specs.Run.{Task, Row, Progress, opens, compared, flips, filtered, modelRow, differs, canFlip, freedFrom, forceFirst, blank, chunkOf, constraint, forcedValues, chunkCall, rowAfter, afterModel, afterNone, afterStop, begun, firstCall}
+use Rattle.rules.specs.Run.{Task, Row, Progress, opens, compared, filtered, modelRow, differs, canFlip, forceFirst, blank, chunkOf}
+use Rattle.rules.specs.Run.{constraint, forcedValues, chunkCall, rowAfter, afterModel, afterNone, afterStop, begun, firstCall}
 use Rattle.rules.specs.Answer.{isFree, isForced}
 use Rattle.rules.specs.Log.{drops, forcedIn, Settles, NumberedFrom, no-row, row, LogOf}
-use Rattle.rules.proofs.ListLaws.{sumOf-append, count-le}
+use Rattle.rules.proofs.ListLaws.{sumOf-append}
 use Rattle.rules.proofs.SearchLaws.{Metered, callOn-tries}
-use Rattle.rules.proofs.StatusLaws.{Freed, freed-counts, ForcedMore}
+use Rattle.rules.proofs.StatusLaws.{freed-counts, ForcedMore}
 use Rattle.rules.specs.Trace.{Reached, first-model, next-model, next-none}
 use Rattle.rules.proofs.RunTrace.{takes-some, model-drops, none-forces}
 
@@ -49,7 +48,8 @@ log-begun r e =
       tries-sum = omega arith;
     }
 
-pub log-more : {rows : List Row} {free forced tries : ℕ} → LogOf rows free forced tries → (r : Row) → r .call ≡ suc (length rows) → Settles r → LogOf (rows ++ (r ∷ [])) (free + drops r) (forced + forcedIn r) (tries + r .tries)
+pub log-more : {rows : List Row} {free forced tries : ℕ} → LogOf rows free forced tries → (r : Row) → r .call ≡ suc (length rows)
+    → Settles r → LogOf (rows ++ (r ∷ [])) (free + drops r) (forced + forcedIn r) (tries + r .tries)
 log-more {rows} l r e s =
     record {
       some = omega (arith, l .some, length-append rows (r ∷ []));
@@ -104,14 +104,23 @@ LogAt p = LogOf (p .rows) (count isFree (p .statuses)) (count isForced (p .statu
 
 pub log-counts : {rows : List Row} {a b c d e f : ℕ} → a ≡ d → b ≡ e → c ≡ f → LogOf rows a b c → LogOf rows d e f
 log-counts p q r l =
-    record { some = l .some; numbered = l .numbered; settle = l .settle; drops-sum = l .drops-sum ∙ p; forced-sum = l .forced-sum ∙ q; tries-sum = l .tries-sum ∙ r }
+    record {
+      some = l .some;
+      numbered = l .numbered;
+      settle = l .settle;
+      drops-sum = l .drops-sum ∙ p;
+      forced-sum = l .forced-sum ∙ q;
+      tries-sum = l .tries-sum ∙ r;
+    }
 
-model-log : (k : Task) (p : Progress) (chunk : ℕ) (m : Values) (t : ℕ) → p .tries ≤ t → opens (filtered k p m) < opens (p .statuses) → LogAt p → LogAt (afterModel k p chunk m t)
+model-log : (k : Task) (p : Progress) (chunk : ℕ) (m : Values) (t : ℕ) → p .tries ≤ t
+    → opens (filtered k p m) < opens (p .statuses) → LogAt p → LogAt (afterModel k p chunk m t)
 model-log k p chunk m t u d l =
     let c = filtered-counts k p chunk m t in
     log-counts (c .free-more) (omega (arith, c .forced-same)) (omega arith) (log-more l (modelRow k p chunk m t) refl (omega (arith, c .drops-are)))
 
-none-log : (p : Progress) (chunk t : ℕ) → p .tries ≤ t → 1 ≤ chunk → ForcedMore chunk (p .statuses) (forceFirst (p .first) (p .statuses) chunk) → LogAt p → LogAt (afterNone p chunk t)
+none-log : (p : Progress) (chunk t : ℕ) → p .tries ≤ t → 1 ≤ chunk
+    → ForcedMore chunk (p .statuses) (forceFirst (p .first) (p .statuses) chunk) → LogAt p → LogAt (afterNone p chunk t)
 none-log p chunk t u c f l =
     log-counts (omega (arith, f .free-same)) (sym (f .forced-more)) (omega arith) (log-more l (rowAfter p Outcome.NoModel chunk 0 0 t) refl c)
 

@@ -5,10 +5,10 @@
 --   refuses-place     the place of every refusal is at most the size of a text
 --
 -- Assumes nothing.
-use mathlib.Core.Path.{_≡_, refl, sym, _∙_, ap}
-use mathlib.Core.Bool.{Bool, true, false, not}
+use mathlib.Core.Path.{_≡_, refl, ap}
+use mathlib.Core.Bool.{Bool, not}
 use mathlib.Core.List.{List, [], _∷_, _++_, List·Memᴰ·head, List·Memᴰ·tail, List·Memᴰ·not-nil, Memᴰ·append-right}
-use Prim.Native.Nat.{ℕ, zero, suc, _+_, _-_, _≤_, _<_}
+use Prim.Native.Nat.{ℕ, _+_, _≤_}
 use native.Mathlib.Omega.{arith}
 use native.Mathlib.Decide.{decLe}
 use lib.IntN.{ℤ}
@@ -18,9 +18,10 @@ use Rattle.rules.specs.Lists.{In, cut, sumOf}
 use Rattle.rules.specs.Numbers.{maxText, readPlace}
 use Rattle.rules.specs.Text.{Piece, Sizes, isEmpty, isBlank, placedFrom, tokensFrom}
 use Rattle.rules.specs.Reading.{behind}
-use Rattle.rules.specs.Refusals.{FirstLine, Headed, AtToken, Refuses, short-buffer, long-text, no-header, bad-header, large-header, bad-token, token-behind, token-over-vars, many-tokens, short-text}
+use Rattle.rules.specs.Refusals.{FirstLine, AtToken, Refuses, short-buffer, long-text, no-header, bad-header}
+use Rattle.rules.specs.Refusals.{large-header, bad-token, token-behind, token-over-vars, many-tokens, short-text}
 use Rattle.rules.proofs.ListLaws.{keep-sound}
-use Rattle.rules.proofs.CutLaws.{Cut, last, piece, cut-exists, nil-not-append}
+use Rattle.rules.proofs.CutLaws.{Cut, last, piece, cut-exists}
 use Rattle.rules.proofs.LineLaws.{first-line-sound}
 
 -- ---- pieces

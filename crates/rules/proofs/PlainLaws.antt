@@ -19,7 +19,8 @@
 use mathlib.Core.Path.{_≡_, refl, _∙_, ap, subst}
 use mathlib.Core.Logic.{_⊎_, inl, inr}
 use mathlib.Core.Bool.{false}
-use mathlib.Core.List.{List, [], _∷_, _++_, map, append-nil, append-assoc, List·Memᴰ·head, List·Memᴰ·tail, List·Memᴰ·not-nil, List·Memᴰ·append-cases, List·Memᴰ·cases-cons}
+use mathlib.Core.List.{List, [], _∷_, _++_, map, append-nil, append-assoc, List·Memᴰ·head}
+use mathlib.Core.List.{List·Memᴰ·tail, List·Memᴰ·not-nil, List·Memᴰ·append-cases, List·Memᴰ·cases-cons}
 use Prim.Native.Nat.{ℕ, zero, suc, _+_, _*_, _^_, _≤_, _<_}
 use native.Mathlib.Omega.{arith}
 use lib.IntN.{ℤ, pos, negsuc}
@@ -66,7 +67,11 @@ clauses-of-entriesOf (cl ∷ F) h =
 
 pub numeral-of-decimal : (n : ℕ) → n < 10 ^ 9 → Numeral (decimal n) n
 numeral-of-decimal n h =
-    record { digits = subst (Digits (decimal n)) (numeral-decimal n) (digits-sound (decimal n) (decimal-digits n)); some = decimal-some n; most = decimal-most 9 n (omega arith) (omega arith) }
+    record {
+      digits = subst (Digits (decimal n)) (numeral-decimal n) (digits-sound (decimal n) (decimal-digits n));
+      some = decimal-some n;
+      most = decimal-most 9 n (omega arith) (omega arith);
+    }
 
 pub token-plainEntry : (l : ℤ) → varOf l < 10 ^ 9 → Token (plainEntry l) l
 token-plainEntry (pos n) h = Token.plain (numeral-of-decimal n h)
@@ -87,7 +92,8 @@ body-blank e (Body.token s t d w) = Body.token (blanks-cons e s) t d w
 token-zero : Token (48 ∷ []) (pos 0)
 token-zero = Token.plain {ds = 48 ∷ []} (record { digits = Digits.digit-behind 0 Digits.no-digits (omega arith); some = omega arith; most = omega arith })
 
-pub body-plainClause : (cl : Clause) {rest : List ℕ} {es : List ℤ} → ((l : ℤ) → In l cl → varOf l < 10 ^ 9) → Body rest es → Body (plainClause cl ++ rest) (cl ++ pos 0 ∷ es)
+pub body-plainClause : (cl : Clause) {rest : List ℕ} {es : List ℤ} → ((l : ℤ) → In l cl → varOf l < 10 ^ 9)
+    → Body rest es → Body (plainClause cl ++ rest) (cl ++ pos 0 ∷ es)
 body-plainClause [] h w = Body.token no-blanks token-zero (Ended.at-blank IsBlank.lf) (body-blank IsBlank.lf w)
 body-plainClause (l ∷ cl) {rest} {es} h w =
     rw (append-assoc (plainEntry l) (32 ∷ plainClause cl) rest)
@@ -121,14 +127,24 @@ length-plainEntry (negsuc n) h = omega (arith, decimal-vars (suc n) h)
 pub length-plainClause : (cl : Clause) → ((l : ℤ) → In l cl → varOf l ≤ maxVars) → length (plainClause cl) ≤ 5 * length cl + 2
 length-plainClause [] h = omega arith
 length-plainClause (l ∷ cl) h =
-    omega
-    (arith, length-append (plainEntry l) (32 ∷ plainClause cl), length-plainEntry l (h l (List·Memᴰ·head refl)), length-plainClause cl (λ k i. h k (List·Memᴰ·tail i)))
+    omega (
+      arith,
+      length-append (plainEntry l) (32 ∷ plainClause cl),
+      length-plainEntry l (h l (List·Memᴰ·head refl)),
+      length-plainClause cl (λ k i. h k (List·Memᴰ·tail i)),
+    )
 
-length-lines : (F : List Clause) → ((cl : Clause) → In cl F → (l : ℤ) → In l cl → varOf l ≤ maxVars) → length (joined (map plainClause F)) ≤ 5 * length (entriesOf F)
+length-lines : (F : List Clause) → ((cl : Clause) → In cl F → (l : ℤ) → In l cl → varOf l ≤ maxVars)
+    → length (joined (map plainClause F)) ≤ 5 * length (entriesOf F)
 length-lines [] h = omega arith
 length-lines (cl ∷ F) h =
-    omega
-    (arith, length-append (plainClause cl) (joined (map plainClause F)), length-append cl (pos 0 ∷ entriesOf F), length-plainClause cl (h cl (List·Memᴰ·head refl)), length-lines F (λ d i. h d (List·Memᴰ·tail i)))
+    omega (
+      arith,
+      length-append (plainClause cl) (joined (map plainClause F)),
+      length-append cl (pos 0 ∷ entriesOf F),
+      length-plainClause cl (h cl (List·Memᴰ·head refl)),
+      length-lines F (λ d i. h d (List·Memᴰ·tail i)),
+    )
 
 length-header : (vars n : ℕ) → vars ≤ maxVars → n ≤ maxClauses → length (plainHeader vars n) ≤ 14
 length-header vars n h k =
@@ -146,8 +162,12 @@ module _ {vars : ℕ} {F : List Clause} (w : Within vars F) where
   pub length-plain : length (plain vars F) ≤ 15 + 5 * length (entriesOf F)
   unfolding plain
   length-plain =
-      omega
-      (arith, length-append (plainHeader vars (length F)) (10 ∷ joined (map plainClause F)), length-header vars (length F) (w .vars-fit) (w .clauses-fit), length-lines F literal-le)
+      omega (
+        arith,
+        length-append (plainHeader vars (length F)) (10 ∷ joined (map plainClause F)),
+        length-header vars (length F) (w .vars-fit) (w .clauses-fit),
+        length-lines F literal-le,
+      )
 
   pub text-plain : Text (plain vars F) vars (length F) (entriesOf F)
   unfolding plain

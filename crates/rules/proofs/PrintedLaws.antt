@@ -19,7 +19,7 @@ use lib.ListN.{length, length-replicate}
 use Rattle.rules.specs.declared.RunAnswer.{RunAnswer}
 use Rattle.rules.specs.Lists.{all, eqs}
 use Rattle.rules.specs.Text.{Sizes, linesOf, tokensFrom, numeral, headerOf, entryOf}
-use Rattle.rules.specs.Reading.{accepted, refused, judge, judgeTokens, judgeLines}
+use Rattle.rules.specs.Reading.{accepted, judge, judgeTokens, judgeLines}
 use Rattle.rules.specs.Grammar.{Dimacs}
 use Rattle.rules.specs.Closing.{stateOf, closeIn, closing}
 use Rattle.rules.specs.Search.{goOn, callOn}
@@ -72,7 +72,8 @@ abbrev pub passes : Shown → Bool
 passes s = eqs (tableOf (quoted (s .text))) (linesIn (s .table))
 
 pub shown : all passes tables ≡ true
-unfolding tableOf judge linesOf judgeLines headerOf numeral tokensFrom judgeTokens entryOf stateOf closeIn closing goOn callOn chunkCall chunksIn chunks firstCall run refusalOf reportOf statusAfter decimal decimalIn
+unfolding tableOf judge linesOf judgeLines headerOf numeral tokensFrom judgeTokens entryOf
+    stateOf closeIn closing goOn callOn chunkCall chunksIn chunks firstCall run refusalOf reportOf statusAfter decimal decimalIn
 shown = refl
 
 -- a stopped run: every word for a variable, and open is V less both
@@ -87,7 +88,8 @@ table-given s es = (refl, refl)
 
 -- ---- the contract
 
-pub prints-exists : (text before : List ℕ) → Prints text before (countIfRoom (leb maxTable (length before)) (tableOf text)) (bytesIfRoom (leb maxTable (length before)) (tableOf text) before)
+pub prints-exists : (text before : List ℕ)
+    → Prints text before (countIfRoom (leb maxTable (length before)) (tableOf text)) (bytesIfRoom (leb maxTable (length before)) (tableOf text) before)
 prints-exists text before = record { count-is = refl; after-is = refl }
 
 pub prints-unique : {text before : List ℕ} {n n′ : ℕ} {b b′ : List ℕ} → Prints text before n b → Prints text before n′ b′ → (n ≡ n′) × (b ≡ b′)

@@ -27,7 +27,8 @@ use Rattle.rules.specs.Numbers.{maxEntries, readNumber, readPlace}
 use Rattle.rules.specs.Text.{Sizes, linesOf, tokensFrom, numeral, headerOf, entryOf}
 use Rattle.rules.specs.Reading.{Judged, accepted, refused, judge, judgeTokens, judgeLines, returned, readingOf, filled, written, entriesAfter, Reads}
 use Rattle.rules.specs.Grammar.{Dimacs}
-use Rattle.rules.specs.Refusals.{Begun, Refuses, short-buffer, long-text, no-header, bad-header, large-header, bad-token, token-behind, token-over-vars, many-tokens, short-text}
+use Rattle.rules.specs.Refusals.{Begun, Refuses, short-buffer, long-text, no-header, bad-header, large-header}
+use Rattle.rules.specs.Refusals.{bad-token, token-behind, token-over-vars, many-tokens, short-text}
 use Rattle.rules.proofs.Quoted.{quoted}
 use Rattle.rules.proofs.VerdictLaws.{Verdict, refuses, accepts, verdict-of-judge}
 use Rattle.rules.proofs.GrammarLaws.{dimacs-of-whole, accepted-sound, accepted-complete}
@@ -48,7 +49,8 @@ filled-inj xs ys before n e =
 -- A long enough buffer gets V, C and the entry count of a DIMACS text, its entries, zeros, and keeps its rest; and no other text does so.
 pub read-accepts : (text : List ℕ) (before : List ℤ) → maxEntries ≤ length before → (s : Sizes) (es : List ℤ)
     → Dimacs text (s .vars) (s .clauses) es
-    ↔ ((readingOf text before ≡ record { answer = ReadAnswer.Accepted; vars = s .vars; clauses = s .clauses; entries = length es }) × (entriesAfter text before ≡ filled es before))
+    ↔ ((readingOf text before ≡ record { answer = ReadAnswer.Accepted; vars = s .vars; clauses = s .clauses; entries = length es })
+    × (entriesAfter text before ≡ filled es before))
 unfolding readingOf entriesAfter
 read-accepts text before h s es = (
   λ d. let e = accepted-complete (length before) text h d in (ap returned e, ap (λ (j : Judged). written j before) e),
@@ -86,7 +88,8 @@ read-accepted text before e = go (judge (length before) text) refl e
 pub read-refuses : (text : List ℕ) (before : List ℤ) (a : ReadAnswer) → a ≢ ReadAnswer.Accepted
     → (readingOf text before .answer ≡ a) ↔ Refuses (length before) text a
 unfolding readingOf
-read-refuses text before a n = (λ e. go (judge (length before) text) refl e, λ r. ap (λ (j : Judged). returned j .answer) (refusal-complete (length before) text r))
+read-refuses text before a n =
+    (λ e. go (judge (length before) text) refl e, λ r. ap (λ (j : Judged). returned j .answer) (refusal-complete (length before) text r))
   where
     go : (j : Judged) → judge (length before) text ≡ j → returned j .answer ≡ a → Refuses (length before) text a
     go (accepted s es) q r = absurd (n (sym r))

@@ -8,14 +8,15 @@
 -- Assumes nothing.
 use mathlib.Core.Path.{_≡_, refl, sym, _∙_, ap}
 use mathlib.Core.List.{List, [], _∷_, _++_}
-use Prim.Native.Nat.{ℕ, zero, suc, _+_, _≤_, _<_, min}
+use Prim.Native.Nat.{ℕ, zero, suc, _≤_, _<_, min}
 use native.Mathlib.Omega.{arith}
 use lib.IntN.{pos, negsuc}
 use lib.ListN.{length, replicate}
 use Rattle.rules.specs.Meaning.{Clause}
 use Rattle.rules.specs.Search.{Call, model, no-model, stopped, callOn}
 use Rattle.rules.specs.Units.{units, forcedClauses}
-use Rattle.rules.specs.Run.{Task, Progress, opens, blank, forcedValues, chunkOf, constraint, chunkCall, afterModel, afterNone, Ended, onCall, onOpen, chunksIn, chunks, run}
+use Rattle.rules.specs.Run.{Task, Progress, opens, blank, forcedValues, chunkOf, constraint}
+use Rattle.rules.specs.Run.{chunkCall, afterNone, Ended, onCall, onOpen, chunksIn, chunks, run}
 use Rattle.rules.proofs.StatusLaws.{length-forcedValues}
 use Rattle.rules.proofs.KnownLaws.{proper-forcedValues}
 use Rattle.rules.proofs.SearchOrder.{callOn-units}
@@ -25,10 +26,13 @@ use Rattle.rules.proofs.RunTrace.{taken-is, takes-min, doubled-is, doub
 -- ---- no bound in sight
 
 -- two ways to go on that agree wherever the next call may lead
-onOpen-cong : {k : Task} {size : ℕ} {p : Progress} → 1 ≤ k .limit → Reached k size p → (f g : ℕ → Progress → Ended) → ((s : ℕ) (q : Progress) → Reached k s q → opens (q .statuses) < opens (p .statuses) → f s q ≡ g s q) → onOpen (opens (p .statuses)) k size p f ≡ onOpen (opens (p .statuses)) k size p g
+onOpen-cong : {k : Task} {size : ℕ} {p : Progress} → 1 ≤ k .limit → Reached k size p → (f g : ℕ → Progress → Ended)
+    → ((s : ℕ) (q : Progress) → Reached k s q → opens (q .statuses) < opens (p .statuses) → f s q ≡ g s q)
+    → onOpen (opens (p .statuses)) k size p f ≡ onOpen (opens (p .statuses)) k size p g
 onOpen-cong {k} {size} {p} h r f g same = on-open (opens (p .statuses)) refl
   where
-    on-call : (j : ℕ) → opens (p .statuses) ≡ suc j → (c : Call) → chunkCall k p (min size (suc j)) ≡ c → onCall c k p size (min size (suc j)) f ≡ onCall c k p size (min size (suc j)) g
+    on-call : (j : ℕ) → opens (p .statuses) ≡ suc j → (c : Call) → chunkCall k p (min size (suc j)) ≡ c
+        → onCall c k p size (min size (suc j)) f ≡ onCall c k p size (min size (suc j)) g
     on-call j z (model m t) e = same 1 _ (next-model m t r (takes-min size p z) e) (model-drops (min size (suc j)) m t r e)
     on-call j z (no-model t) e =
         same _ _ (next-none t r (takes-min size p z) e (doubled-min size (k .limit)))
@@ -40,7 +44,8 @@ onOpen-cong {k} {size} {p} h r f g same = on-open (opens (p .statuses)) refl
     on-open (suc j) z = on-call j z (chunkCall k p (min size (suc j))) refl
 
 -- bounds that are large enough make no difference
-chunksIn-enough : {k : Task} → 1 ≤ k .limit → (n m : ℕ) {size : ℕ} {p : Progress} → Reached k size p → opens (p .statuses) ≤ n → opens (p .statuses) ≤ m → chunksIn n k size p ≡ chunksIn m k size p
+chunksIn-enough : {k : Task} → 1 ≤ k .limit → (n m : ℕ) {size : ℕ} {p : Progress} → Reached k size p
+    → opens (p .statuses) ≤ n → opens (p .statuses) ≤ m → chunksIn n k size p ≡ chunksIn m k size p
 unfolding chunksIn
 chunksIn-enough {k} h zero zero r a b = refl
 chunksIn-enough {k} h zero (suc m) {size} {p} r a b =
@@ -50,7 +55,8 @@ chunksIn-enough {k} h (suc n) zero {size} {p} r a b =
 chunksIn-enough {k} h (suc n) (suc m) r a b =
     onOpen-cong h r _ _ (λ s q rq l. chunksIn-enough h n m rq (omega arith) (omega arith))
 
-pub chunks-next : {k : Task} {size : ℕ} {p : Progress} → 1 ≤ k .limit → Reached k size p → chunks k size p ≡ onOpen (opens (p .statuses)) k size p (λ s q. chunks k s q)
+pub chunks-next : {k : Task} {size : ℕ} {p : Progress} → 1 ≤ k .limit → Reached k size p
+    → chunks k size p ≡ onOpen (opens (p .statuses)) k size p (λ s q. chunks k s q)
 unfolding chunks chunksIn
 chunks-next {k} {size} {p} h r =
     chunksIn-enough h (opens (p .statuses)) (suc (opens (p .statuses))) r (omega arith) (omega arith) ∙
@@ -104,7 +110,8 @@ pub chunkCall-units : (k : Task) (p : Progress) (n : ℕ)
 unfolding chunkCall
 chunkCall-units k p n =
     sym (callOn-units (k .budget) (k .formula) last (forcedValues (p .statuses)) (p .tries) (proper-forcedValues (p .statuses))) ∙
-    ap (λ (v : ℕ). callOn (k .budget) (k .formula ++ units 0 (forcedValues (p .statuses)) ++ last) (replicate v 0) (p .tries)) (length-forcedValues (p .statuses)) ∙
+    ap (λ (v : ℕ). callOn (k .budget) (k .formula ++ units 0 (forcedValues (p .statuses)) ++ last) (replicate v 0) (p .tries))
+    (length-forcedValues (p .statuses)) ∙
     ap (λ (cls : List Clause). callOn (k .budget) (k .formula ++ cls ++ last) (blank (length (p .statuses))) (p .tries)) (units-forced 0 (p .statuses))
   where
     last : List Clause

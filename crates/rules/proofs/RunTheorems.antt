@@ -13,29 +13,23 @@
 -- Assumes nothing.
 use mathlib.Core.Path.{_≡_, refl, sym, _∙_, ap}
 use mathlib.Core.Logic.{_≢_, _⊎_, inl, inr, _↔_}
-use mathlib.Core.Bool.{Bool, true, false}
-use mathlib.Core.List.{List, [], _∷_, _++_, List·Memᴰ·head}
-use Prim.Native.Nat.{ℕ, zero, suc, _+_, _≤_, _<_, min}
+use mathlib.Core.List.{List, [], _∷_, _++_}
+use Prim.Native.Nat.{ℕ, zero, suc, _≤_, _<_}
 use native.Mathlib.Omega.{arith}
 use lib.IntN.{ℤ, pos, negsuc}
-use lib.ListN.{length, replicate, length-append, length-replicate}
+use lib.ListN.{length, replicate, length-replicate}
 use lib.Seq.{ext-getD}
 use borrow.Author.Tests.{eqb-true, eq-eqb}
-use Rattle.rules.specs.declared.Outcome.{Outcome}
 use Rattle.rules.specs.declared.RunAnswer.{RunAnswer}
-use Rattle.rules.specs.Lists.{In, count}
-use Rattle.rules.specs.Meaning.{Clause, Values, valueAt, indexOf, trueByte, isTrue, LitUpTo, Model}
-use Rattle.rules.specs.Search.{Call, model, no-model, stopped}
-use Rattle.rules.specs.Models.{Extends, NoModel, Forced, Free, Witness, by-model, by-flip, WitnessOf, NoModelFrom}
-use Rattle.rules.specs.Run.{Task, Row, Progress, statusAt, isForcedTo, opens, isOpen, forcedBy, forcedValue, blank, flipped, rowAfter, afterNone, afterStop, Ended, begun, firstCall, chunkCall, run}
-use Rattle.rules.specs.Answer.{isFree, isForced}
-use Rattle.rules.specs.Log.{LogOf}
-use Rattle.rules.proofs.ListLaws.{never}
+use Rattle.rules.specs.Lists.{In}
+use Rattle.rules.specs.Meaning.{Clause, Values, valueAt, indexOf, trueByte, LitUpTo, Model}
+use Rattle.rules.specs.Models.{NoModel, Forced, Free, Witness, by-model, by-flip, WitnessOf}
+use Rattle.rules.specs.Run.{Task, Progress, statusAt, isForcedTo, opens, forcedBy, forcedValue, flipped, Ended, run}
+use Rattle.rules.proofs.ListLaws.{apart}
 use Rattle.rules.proofs.MeaningLaws.{blank-extends, blank-proper}
 use Rattle.rules.proofs.KnownLaws.{Known, first-model-is}
 use Rattle.rules.specs.Trace.{withLimits, Reached, first-model, next-model, next-none, Ends, first-none, first-stopped, settled, next-stopped}
 use Rattle.rules.proofs.RunTrace.{known, run-ends, first-none-of}
-use Rattle.rules.proofs.LogLaws.{logged, log-begun, stop-log, calls-opens-le, tries-le, LogAt}
 
 -- ---- the models of a run: the first one found is the first in its list
 
@@ -54,16 +48,20 @@ forcedValue-trueByte : (l : ℤ) → forcedValue (forcedBy (trueByte l)) ≡ tru
 forcedValue-trueByte (pos n) = refl
 forcedValue-trueByte (negsuc n) = refl
 
-known-forced : {k : Task} {first : Values} {models : List Values} {ss : List ℕ} → Known k first models ss → (l : ℤ) → isForcedTo ss l → Forced (k .vars) (k .formula) l
+known-forced : {k : Task} {first : Values} {models : List Values} {ss : List ℕ}
+    → Known k first models ss → (l : ℤ) → isForcedTo ss l → Forced (k .vars) (k .formula) l
 known-forced {k} {first} {models} {ss} w l e =
     record {
       some-model = first;
       is-model = first-model-is w;
-      in-all = λ m x. eq-eqb (valueAt m (indexOf l)) (trueByte l) (w .forced (indexOf l) (rw e (forcedBy-le l)) m x ∙ ap forcedValue e ∙ forcedValue-trueByte l);
+      in-all =
+          λ m x. eq-eqb (valueAt m (indexOf l)) (trueByte l)
+          (w .forced (indexOf l) (rw e (forcedBy-le l)) m x ∙ ap forcedValue e ∙ forcedValue-trueByte l);
     }
 
 -- a witness shows that models differ
-free-of-witness : {n : ℕ} {F : List Clause} {first : Values} {models : List Values} {i : ℕ} → Model n F first → ((m : Values) → In m models → Model n F m) → Witness n F first models i → Free n F i
+free-of-witness : {n : ℕ} {F : List Clause} {first : Values} {models : List Values} {i : ℕ}
+    → Model n F first → ((m : Values) → In m models → Model n F m) → Witness n F first models i → Free n F i
 free-of-witness {first = first} x are (by-model m h d) =
     record { one = m; two = first; one-is = are m h; two-is = x; differ = d }
 free-of-witness {first = first} {i = i} x are (by-flip m h y d) =
@@ -104,7 +102,8 @@ module _ {k : Task} {first : Values} {models : List Values} {ss : List ℕ} (w :
       go : (statusAt ss (indexOf l) ≡ 1) ⊎ (2 ≤ statusAt ss (indexOf l)) → isForcedTo ss l
       go (inl e) = absurd (forced-not-free f (free-of-witness (first-model-is w) (w .models-are) (w .free (indexOf l) h e)))
       go (inr q) =
-          forcedBy-of (statusAt ss (indexOf l)) l q (w .small (indexOf l)) (sym (w .forced (indexOf l) q first (first-model-is w)) ∙ eqb-true _ (trueByte l) (f .in-all first (first-model-is w)))
+          forcedBy-of (statusAt ss (indexOf l)) l q (w .small (indexOf l))
+          (sym (w .forced (indexOf l) q first (first-model-is w)) ∙ eqb-true _ (trueByte l) (f .in-all first (first-model-is w)))
 
   free-complete : (i : ℕ) → Free (k .vars) (k .formula) i → statusAt ss i ≡ 1
   free-complete i d = go (free-or-forced (statusAt ss i) (no-open ss z i))
@@ -179,21 +178,24 @@ module _ (k : Task) (limit : 1 ≤ k .limit) where
           record { first = p .first; rest = rest; models-are = q; witness = w .free i h f; each = w .models-are }
 
   -- a settled run has no candidate left
-  settled-known : run k .answer ≡ RunAnswer.Settled → Known k (run k .progress .first) (run k .progress .models) (run k .progress .statuses) × (opens (run k .progress .statuses) ≡ 0)
+  settled-known : run k .answer ≡ RunAnswer.Settled
+      → Known k (run k .progress .first) (run k .progress .models) (run k .progress .statuses) × (opens (run k .progress .statuses) ≡ 0)
   settled-known = go (run-ends k limit)
     where
-      go : {e : Ended} → Ends k e → e .answer ≡ RunAnswer.Settled → Known k (e .progress .first) (e .progress .models) (e .progress .statuses) × (opens (e .progress .statuses) ≡ 0)
-      go (first-none t e) z = absurd (let y : _≡_ {A = ℕ} 0 1 = cc in omega arith)
-      go (first-stopped t e) z = absurd (let y : _≡_ {A = ℕ} 0 1 = cc in omega arith)
+      go : {e : Ended} → Ends k e → e .answer ≡ RunAnswer.Settled
+          → Known k (e .progress .first) (e .progress .models) (e .progress .statuses) × (opens (e .progress .statuses) ≡ 0)
+      go (first-none t e) z = apart cc
+      go (first-stopped t e) z = apart cc
       go (settled r o) z = (known r, o)
-      go (next-stopped t r o e) z = absurd (let y : _≡_ {A = ℕ} 0 1 = cc in omega arith)
+      go (next-stopped t r o e) z = apart cc
 
   -- a settled run leaves no variable open
   pub settled-none-open : run k .answer ≡ RunAnswer.Settled → (i : ℕ) → statusAt (run k .progress .statuses) i ≢ 0
   settled-none-open a i = no-open (run k .progress .statuses) (settled-known a .1) i
 
   -- a settled run marks a literal forced exactly if a model exists and all models contain it
-  pub settled-forced : run k .answer ≡ RunAnswer.Settled → (l : ℤ) → LitUpTo (k .vars) l → isForcedTo (run k .progress .statuses) l ↔ Forced (k .vars) (k .formula) l
+  pub settled-forced : run k .answer ≡ RunAnswer.Settled → (l : ℤ) → LitUpTo (k .vars) l
+      → isForcedTo (run k .progress .statuses) l ↔ Forced (k .vars) (k .formula) l
   settled-forced a l h = let (w, z) = settled-known a in (run-forced l h, forced-complete w z l (indexOf-lt l h))
 
   -- and a variable free exactly if models differ on it
@@ -207,9 +209,9 @@ module _ (k : Task) (limit : 1 ≤ k .limit) where
       sound : {e : Ended} → Ends k e → e .answer ≡ RunAnswer.NoModel → NoModel (k .vars) (k .formula)
       sound (first-none t e) z =
           record { none = λ m x. first-none-of k t e .none-from m (blank-extends (k .vars) m (x .len)) (x .total) (x .all-true) }
-      sound (first-stopped t e) z = absurd (let y : _≡_ {A = ℕ} 0 1 = cc in omega arith)
-      sound (settled r o) z = absurd (let y : _≡_ {A = ℕ} 0 1 = cc in omega arith)
-      sound (next-stopped t r o e) z = absurd (let y : _≡_ {A = ℕ} 0 1 = cc in omega arith)
+      sound (first-stopped t e) z = apart cc
+      sound (settled r o) z = apart cc
+      sound (next-stopped t r o e) z = apart cc
 
       complete : {e : Ended} → Ends k e → e .answer ≢ RunAnswer.Stopped → NoModel (k .vars) (k .formula) → e .answer ≡ RunAnswer.NoModel
       complete (first-none t e) z f = refl

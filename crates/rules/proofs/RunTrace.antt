@@ -13,30 +13,30 @@
 -- Assumes nothing.
 use mathlib.Core.Path.{_≡_, refl, sym, _∙_, ap}
 use mathlib.Core.Logic.{_≢_, _⊎_, inl, inr}
-use mathlib.Core.Bool.{Bool, true, false, not}
-use mathlib.Core.List.{List, [], _∷_, _++_, map, List·Memᴰ·head, List·Memᴰ·tail, List·Memᴰ·not-nil, List·Memᴰ·append-cases, List·Memᴰ·eq-of-singleton, Memᴰ·append-left, Memᴰ·append-right}
-use Prim.Native.Nat.{ℕ, zero, suc, _+_, _-_, _≤_, _<_, min}
+use mathlib.Core.Bool.{true, not}
+use mathlib.Core.List.{List, [], _∷_, _++_, List·Memᴰ·head, List·Memᴰ·eq-of-singleton, Memᴰ·append-right}
+use Prim.Native.Nat.{ℕ, zero, suc, _+_, _≤_, _<_, min}
 use native.Mathlib.Omega.{arith}
 use native.Mathlib.Nat.{zero-add}
 use lib.IntN.{ℤ}
-use lib.Dec.{eqb}
-use lib.ListN.{length, getD, set, take, replicate, length-replicate, getD-replicate, length-set, List·getD-eq-default}
-use lib.Seq.{getD-set-same, length-take-le}
-use borrow.Author.Tests.{eqb-true, eqb-false, eq-eqb, ne-eqb}
-use Rattle.rules.specs.declared.RunAnswer.{RunAnswer}
-use Rattle.rules.specs.Lists.{In, any, all}
-use Rattle.rules.specs.Meaning.{Clause, Values, valueAt, indexOf, trueByte, negated, isTrue, hasTrue, satisfies, Total, Model, Proper}
-use Rattle.rules.specs.Search.{Call, model, no-model, stopped, callOn}
-use Rattle.rules.specs.Models.{Extends, Witness, by-model, by-flip, LeastModel, NoModelFrom}
-use Rattle.rules.specs.Run.{Task, Row, Progress, statusAt, isForcedTo, opens, literalAt, candidatesFrom, freedFrom, differs, otherByte, flipped, canFlip, compared, flips, filtered, forcedBy, forceFirst, blank, forcedValue, forcedValues, chunkOf, constraint, chunkCall, afterModel, afterNone, afterStop, Ended, endedBy, begun, onCall, onOpen, chunksIn, chunks, onFirst, firstCall, run}
-use Rattle.rules.specs.Answer.{isFree, isForced}
+use lib.ListN.{length, take, replicate, length-replicate}
+use lib.Seq.{length-take-le}
+use borrow.Author.Tests.{eqb-true, ne-eqb}
+use Rattle.rules.specs.Lists.{In}
+use Rattle.rules.specs.Meaning.{Values, valueAt, indexOf, trueByte, negated, isTrue, hasTrue, Total, Model}
+use Rattle.rules.specs.Search.{Call, model, no-model, stopped}
+use Rattle.rules.specs.Models.{LeastModel, NoModelFrom}
+use Rattle.rules.specs.Run.{Task, Progress, statusAt, isForcedTo, opens, literalAt, candidatesFrom, differs}
+use Rattle.rules.specs.Run.{otherByte, canFlip, compared, filtered, forceFirst, blank, forcedValues, chunkOf}
+use Rattle.rules.specs.Run.{constraint, chunkCall, onCall, onOpen, chunksIn, chunks, onFirst, firstCall, run}
 use Rattle.rules.specs.Trace.{Taken, as-many, all-left, Takes, Doubled, twice, at-limit, FreesSome, ForcesChunk, Leaves}
 use Rattle.rules.specs.Trace.{Reached, first-model, next-model, next-none, Ends, first-none, first-stopped, settled, next-stopped}
-use Rattle.rules.proofs.ListLaws.{le-or-lt, both, never, any-sound, any-complete, and-left, map-in, in-take}
-use Rattle.rules.proofs.MeaningLaws.{set-cases, blank-proper, blank-extends, satisfies-append, satisfies-left, satisfies-right}
+use Rattle.rules.proofs.ListLaws.{le-or-lt, any-sound, and-left, map-in, in-take}
+use Rattle.rules.proofs.MeaningLaws.{blank-proper, satisfies-left, satisfies-right}
 use Rattle.rules.proofs.SearchLaws.{Says, callOn-says}
 use Rattle.rules.proofs.KnownLaws.{Known, first-model-is, otherByte-valued, known-more, known-filtered, known-none, proper-forcedValues}
-use Rattle.rules.proofs.StatusLaws.{freed-counts, opens-freed-lt, ForcedMore, forceFirst-counts, ForcedIn, chunk-forced, length-candidates, length-freedFrom, freed-at, candidate-open, literalAt-true, literalAt-negated, length-forceFirst, forceFirst-at, length-forcedValues, forcedValues-at, forcedValue-forcedBy, forcedValue-le}
+use Rattle.rules.proofs.StatusLaws.{freed-counts, opens-freed-lt, ForcedMore, forceFirst-counts, ForcedIn, chunk-forced, length-candidates}
+use Rattle.rules.proofs.StatusLaws.{ForcedCases, freed-at, candidate-open, literalAt-true, literalAt-negated, forceFirst-at, length-forcedValues}
 
 -- ---- what the calls say
 
@@ -56,10 +56,12 @@ first-model-of k m t e = rw e at (first-says k)
 pub first-none-of : (k : Task) (t : ℕ) → firstCall k ≡ no-model t → NoModelFrom (k .formula) (blank (k .vars))
 first-none-of k t e = rw e at (first-says k)
 
-chunk-model-of : (k : Task) (p : Progress) (n : ℕ) (m : Values) (t : ℕ) → chunkCall k p n ≡ model m t → LeastModel (k .formula ++ constraint (chunkOf p n) ∷ []) (forcedValues (p .statuses)) m
+chunk-model-of : (k : Task) (p : Progress) (n : ℕ) (m : Values) (t : ℕ) → chunkCall k p n ≡ model m t
+    → LeastModel (k .formula ++ constraint (chunkOf p n) ∷ []) (forcedValues (p .statuses)) m
 chunk-model-of k p n m t e = rw e at (chunk-says k p n)
 
-chunk-none-of : (k : Task) (p : Progress) (n t : ℕ) → chunkCall k p n ≡ no-model t → NoModelFrom (k .formula ++ constraint (chunkOf p n) ∷ []) (forcedValues (p .statuses))
+chunk-none-of : (k : Task) (p : Progress) (n t : ℕ) → chunkCall k p n ≡ no-model t
+    → NoModelFrom (k .formula ++ constraint (chunkOf p n) ∷ []) (forcedValues (p .statuses))
 chunk-none-of k p n t e = rw e at (chunk-says k p n)
 
 pub first-is-model : (k : Task) (m : Values) (t : ℕ) → firstCall k ≡ model m t → Model (k .vars) (k .formula) m
@@ -67,7 +69,8 @@ first-is-model k m t e =
     let s = first-model-of k m t e in
     record { len = s .len ∙ length-replicate (k .vars) 0; total = s .total; all-true = s .all-true }
 
-pub chunk-is-model : (k : Task) (p : Progress) (n : ℕ) (m : Values) (t : ℕ) → length (p .statuses) ≡ k .vars → chunkCall k p n ≡ model m t → Model (k .vars) (k .formula) m
+pub chunk-is-model : (k : Task) (p : Progress) (n : ℕ) (m : Values) (t : ℕ)
+    → length (p .statuses) ≡ k .vars → chunkCall k p n ≡ model m t → Model (k .vars) (k .formula) m
 chunk-is-model k p n m t h e =
     let s = chunk-model-of k p n m t e in
     record {
@@ -154,7 +157,8 @@ pub takes-some : {k : Task} {size chunk : ℕ} {p : Progress} → 1 ≤ k .limit
 takes-some h r w = (omega (arith, size-pos h r, w .remain, taken-is (w .taken)), omega (arith, taken-is (w .taken)))
 
 -- values that make the constraint of a chunk true differ from the first model at an open variable
-constraint-differs : (first : Values) → Total first → (ss : List ℕ) (n : ℕ) (m : Values) → hasTrue m (constraint (take n (candidatesFrom 0 first ss))) ≡ true → (i : ℕ) × (statusAt ss i ≡ 0) × (differs first m i ≡ true)
+constraint-differs : (first : Values) → Total first → (ss : List ℕ) (n : ℕ) (m : Values)
+    → hasTrue m (constraint (take n (candidatesFrom 0 first ss))) ≡ true → (i : ℕ) × (statusAt ss i ≡ 0) × (differs first m i ≡ true)
 constraint-differs first total ss n m h =
     let (y, i, t) = any-sound (isTrue m) (constraint (take n (candidatesFrom 0 first ss))) h in
     let (l, j, e) = map-in negated (take n (candidatesFrom 0 first ss)) i in
@@ -166,17 +170,25 @@ constraint-differs first total ss n m h =
         let (a, b) = literalAt-negated x (valueAt first x) (total .valued x) in
         otherByte-valued (valueAt first x) (total .valued x) .1 (sym (byte a b) ∙ d)
       where
-        byte : indexOf (negated (literalAt x (valueAt first x))) ≡ x → trueByte (negated (literalAt x (valueAt first x))) ≡ otherByte (valueAt first x) → valueAt m x ≡ otherByte (valueAt first x)
+        byte : indexOf (negated (literalAt x (valueAt first x))) ≡ x
+            → trueByte (negated (literalAt x (valueAt first x))) ≡ otherByte (valueAt first x) → valueAt m x ≡ otherByte (valueAt first x)
         byte a b = ap (valueAt m) (sym a) ∙ eqb-true _ _ t ∙ b
 
-pub model-drops : {k : Task} {size : ℕ} {p : Progress} (n : ℕ) (m : Values) (t : ℕ) → Reached k size p → chunkCall k p n ≡ model m t → opens (filtered k p m) < opens (p .statuses)
+pub model-drops : {k : Task} {size : ℕ} {p : Progress} (n : ℕ) (m : Values) (t : ℕ)
+    → Reached k size p → chunkCall k p n ≡ model m t → opens (filtered k p m) < opens (p .statuses)
 model-drops {k} {size} {p} n m t r e =
     let s = chunk-model-of k p n m t e in
-    let c : hasTrue m (constraint (chunkOf p n)) ≡ true = and-left (hasTrue m (constraint (chunkOf p n))) true (satisfies-right m (k .formula) (constraint (chunkOf p n) ∷ []) (s .all-true)) in
+    let cl = constraint (chunkOf p n) in
+    let c : hasTrue m cl ≡ true = and-left (hasTrue m cl) true (satisfies-right m (k .formula) (cl ∷ []) (s .all-true)) in
     let (i, z, d) = constraint-differs (p .first) (first-model-is (known r) .total) (p .statuses) n m c in
-    omega (arith, opens-freed-lt 0 (differs (p .first) m) (p .statuses) i z (rw zero-add d), freed-counts 0 (canFlip (k .formula) m) (compared (p .first) m (p .statuses)) .opens-le)
+    omega (
+      arith,
+      opens-freed-lt 0 (differs (p .first) m) (p .statuses) i z (rw zero-add d),
+      freed-counts 0 (canFlip (k .formula) m) (compared (p .first) m (p .statuses)) .opens-le,
+    )
 
-pub none-forces : {k : Task} {size : ℕ} {p : Progress} (n : ℕ) → Reached k size p → n ≤ opens (p .statuses) → ForcedMore n (p .statuses) (forceFirst (p .first) (p .statuses) n)
+pub none-forces : {k : Task} {size : ℕ} {p : Progress} (n : ℕ) → Reached k size p
+    → n ≤ opens (p .statuses) → ForcedMore n (p .statuses) (forceFirst (p .first) (p .statuses) n)
 none-forces {k} {size} {p} n r h =
     let w = known r in forceFirst-counts (p .first) (p .statuses) n (first-model-is w .len ∙ sym (w .len)) h
 
@@ -234,8 +246,7 @@ forces-chunk {k} {size} {p} n r some most =
         rw (f .literal, a, t, zero-add) (f .forced)
 
     changed : (i : ℕ) → statusAt (forceFirst first ss n) i ≢ statusAt ss i
-        → (statusAt (forceFirst first ss n) i ≡ statusAt ss i) ⊎ ((statusAt (forceFirst first ss n) i ≡ forcedBy (valueAt first i)) × In (literalAt (0 + i) (valueAt first i)) (chunkOf p n))
-        → (l : ℤ) × In l (chunkOf p n) × (indexOf l ≡ i) × (statusAt ss i ≡ 0)
+        → ForcedCases 0 first ss n i → (l : ℤ) × In l (chunkOf p n) × (indexOf l ≡ i) × (statusAt ss i ≡ 0)
     changed i ne (inl e) = absurd (ne e)
     changed i ne (inr (e, h)) = (l, h, at-i, rw (sym same) (f .was-open))
       where
@@ -274,7 +285,8 @@ chunksIn-ends {k} h (suc n) {size} {p} r o = on-open (opens (p .statuses)) refl 
     IH : Type 0
     IH = (s : ℕ) (q : Progress) → Reached k s q → opens (q .statuses) ≤ n → Ends k (chunksIn n k s q)
 
-    on-call : (j : ℕ) → opens (p .statuses) ≡ suc j → IH → (c : Call) → chunkCall k p (min size (suc j)) ≡ c → Ends k (onCall c k p size (min size (suc j)) (λ s q. chunksIn n k s q))
+    on-call : (j : ℕ) → opens (p .statuses) ≡ suc j → IH → (c : Call) → chunkCall k p (min size (suc j)) ≡ c
+        → Ends k (onCall c k p size (min size (suc j)) (λ s q. chunksIn n k s q))
     on-call j z ih (model m t) e = ih _ _ (next-model m t r (takes-min size p z) e) (omega (arith, model-drops (min size (suc j)) m t r e))
     on-call j z ih (no-model t) e =
         ih _ _ (next-none t r (takes-min size p z) e (doubled-min size (k .limit)))

@@ -24,7 +24,7 @@ use Rattle.rules.specs.Closing.{stateOf, Closed, closing, unsets}
 use Rattle.rules.specs.Models.{Extends, NotAfter, same, before, LeastModel, NoModelFrom}
 use Rattle.rules.specs.Visits.{Quiet}
 use Rattle.rules.specs.Search.{Call, model, no-model, stopped, triesOf, ifLeft, try, orElse, onClosed, callOn}
-use Rattle.rules.proofs.ListLaws.{all-complete}
+use Rattle.rules.proofs.ListLaws.{apart, all-complete}
 use Rattle.rules.proofs.MeaningLaws.{extends-trans, extends-set, set-extends, valueAt-set-extends, total-of-set}
 use Rattle.rules.proofs.ClosingLaws.{Means, means, Calm, calm-of-quiet, Keeps, closing-sound}
 use Rattle.rules.proofs.CallLaws.{Onward, clashes, all-set, tries}
@@ -165,8 +165,8 @@ module _ (budget : ℕ) where
       step vs go-on ih t = go (onward budget F vs t)
         where
           go : {k : (Values → ℕ → Call) → Call} → Onward budget F vs t k → Metered budget t (k go-on)
-          go (clashes e) = metered-now t (no-model t) refl (λ u q. let z : _≡_ {A = ℕ} 0 1 = cc in absurd (omega arith))
-          go (all-set ws e s h) = metered-now t (model ws t) refl (λ u q. let z : _≡_ {A = ℕ} 0 1 = cc in absurd (omega arith))
+          go (clashes e) = metered-now t (no-model t) refl (λ u q. apart cc)
+          go (all-set ws e s h) = metered-now t (model ws t) refl (λ u q. apart cc)
           go (tries ws i e s z low tried) =
               orElse-metered t (try budget go-on ws i 1 t) (each 0 (omega arith) t) (λ u. try budget go-on ws i 2 u) (each 1 (omega arith))
             where

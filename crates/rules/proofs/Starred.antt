@@ -102,7 +102,8 @@ cases =
     -- 2, `1 2 0 1 -2 0`
     line 2 100 2 (clause (pos 1 ∷ pos 2 ∷ []) ++ clause (pos 1 ∷ neg 2 ∷ [])) (returns 0 2 3 1 1) (2 ∷ 1 ∷ []) (row 1 1 0 0 1 3 ∷ row 2 2 1 0 0 0 ∷ []) ∷
     -- 3, `1 0 2 0 3 0`
-    line 3 100 2 (unit (pos 1) ++ unit (pos 2) ++ unit (pos 3)) (returns 0 3 0 3 0) (2 ∷ 2 ∷ 2 ∷ []) (row 1 1 0 0 0 0 ∷ row 2 2 1 0 0 0 ∷ row 3 2 2 0 0 0 ∷ []) ∷
+    line 3 100 2 (unit (pos 1) ++ unit (pos 2) ++ unit (pos 3)) (returns 0 3 0 3 0) (2 ∷ 2 ∷ 2 ∷ [])
+    (row 1 1 0 0 0 0 ∷ row 2 2 1 0 0 0 ∷ row 3 2 2 0 0 0 ∷ []) ∷
     -- 3, `1 2 3 0`
     line 3 100 2 (clause (pos 1 ∷ pos 2 ∷ pos 3 ∷ [])) (returns 0 2 3 0 3) (1 ∷ 1 ∷ 1 ∷ []) (row 1 1 0 0 2 2 ∷ row 2 1 1 1 0 1 ∷ []) ∷
     -- 3, `1 2 3 0`, budget 2

@@ -20,7 +20,8 @@ use Rattle.rules.specs.Meaning.{Clause, Values, isTrue, isUnset, hasTrue
 use Rattle.rules.specs.Closing.{literal, unitIf, stateBy, stateOf}
 use Rattle.rules.specs.Models.{Extends}
 use Rattle.rules.specs.Visits.{Quiet}
-use Rattle.rules.proofs.ListLaws.{both, never, not-true, any-sound, none-of-any, all-sound, all-false, keep-sound, keep-complete, eqz-sound, eqz-complete}
+use Rattle.rules.proofs.ListLaws.{both, never, not-true, any-sound, none-of-any, all-sound}
+use Rattle.rules.proofs.ListLaws.{all-false, keep-sound, keep-complete, eqz-sound, eqz-complete}
 use Rattle.rules.proofs.MeaningLaws.{isTrue-frame}
 
 -- ---- what a state says

@@ -6,24 +6,24 @@
 --   length-candidates, candidate-open     a candidate is the first model's literal of an open variable
 --   literalAt-true, literalAt-negated     the literal at an index, and its negation
 --   ForcedMore, forceFirst-counts n open variables become forced, and nothing else changes
---   length-forceFirst, forceFirst-at      what an index holds then
+--   length-forceFirst, ForcedCases, forceFirst-at     what an index holds then
 --   ForcedIn, chunk-forced        each literal of the chunk was open, and is forced then
---   length-forcedValues, forcedValues-at, forcedValue-forcedBy, forcedValue-le     the values of the forced literals
+--   length-forcedValues, SetCases, forcedValues-at, forcedValue-forcedBy, forcedValue-le     the values of the forced literals
 --
 -- Assumes nothing.
-use mathlib.Core.Path.{_≡_, refl, sym, _∙_, ap}
+use mathlib.Core.Path.{_≡_, refl, ap}
 use mathlib.Core.Logic.{_≢_, _⊎_, inl, inr}
-use mathlib.Core.Bool.{Bool, true, false, not}
-use mathlib.Core.List.{List, [], _∷_, _++_, map, List·Memᴰ·head, List·Memᴰ·tail, List·Memᴰ·not-nil}
-use Prim.Native.Nat.{ℕ, zero, suc, _+_, _-_, _≤_, _<_, min}
+use mathlib.Core.Bool.{Bool, true, false}
+use mathlib.Core.List.{List, [], _∷_, List·Memᴰ·head, List·Memᴰ·tail, List·Memᴰ·not-nil}
+use Prim.Native.Nat.{ℕ, zero, suc, _+_, _≤_, _<_}
 use native.Mathlib.Omega.{arith}
-use native.Mathlib.Nat.{add-zero, add-suc, suc-add, zero-add}
-use lib.IntN.{ℤ, pos, negsuc}
-use lib.Dec.{eqb, leb}
-use lib.ListN.{length, getD, take, length-map}
+use native.Mathlib.Nat.{add-zero, add-suc, suc-add}
+use lib.IntN.{ℤ}
+use lib.ListN.{length, take, length-map}
 use Rattle.rules.specs.Lists.{In, count, countIf}
-use Rattle.rules.specs.Meaning.{Values, valueAt, indexOf, trueByte, negated, isTrue}
-use Rattle.rules.specs.Run.{statusAt, isOpen, opens, literalAt, candidatesFrom, freedIf, freedFrom, otherByte, forcedBy, forceFirst, forcedValue, forcedValues}
+use Rattle.rules.specs.Meaning.{Values, valueAt, indexOf, trueByte, negated}
+use Rattle.rules.specs.Run.{statusAt, isOpen, opens, literalAt, candidatesFrom, freedIf, freedFrom}
+use Rattle.rules.specs.Run.{otherByte, forcedBy, forceFirst, forcedValue, forcedValues}
 use Rattle.rules.specs.Answer.{isFree, isForced}
 
 -- ---- freeing
@@ -33,7 +33,9 @@ length-freedFrom i p [] = refl
 length-freedFrom i p (s ∷ ss) = ap suc (length-freedFrom (suc i) p ss)
 
 -- the three counts of one status after it is freed or not
-freed-one : (b : Bool) (s : ℕ) → (countIf (isForced (freedIf b s)) 0 ≡ countIf (isForced s) 0) × (countIf (isFree (freedIf b s)) 0 + countIf (isOpen (freedIf b s)) 0 ≡ countIf (isFree s) 0 + countIf (isOpen s) 0) × (countIf (isOpen (freedIf b s)) 0 ≤ countIf (isOpen s) 0)
+freed-one : (b : Bool) (s : ℕ) → (countIf (isForced (freedIf b s)) 0 ≡ countIf (isForced s) 0)
+    × (countIf (isFree (freedIf b s)) 0 + countIf (isOpen (freedIf b s)) 0 ≡ countIf (isFree s) 0 + countIf (isOpen s) 0)
+    × (countIf (isOpen (freedIf b s)) 0 ≤ countIf (isOpen s) 0)
 freed-one true zero = (refl, refl, omega arith)
 freed-one true (suc s) = (refl, refl, omega arith)
 freed-one false s = (refl, refl, omega arith)
@@ -57,12 +59,22 @@ freed-counts i p (s ∷ ss) =
     let ts = freedFrom (suc i) p ss in
     record {
       forced-same = omega (arith, ih .forced-same, one .0, countIf-add (isForced t) (count isForced ts), countIf-add (isForced s) (count isForced ss));
-      free-more = omega (arith, ih .free-more, one .1, countIf-add (isFree t) (count isFree ts), countIf-add (isFree s) (count isFree ss), countIf-add (isOpen t) (opens ts), countIf-add (isOpen s) (opens ss));
+      free-more =
+          omega (
+            arith,
+            ih .free-more,
+            one .1,
+            countIf-add (isFree t) (count isFree ts),
+            countIf-add (isFree s) (count isFree ss),
+            countIf-add (isOpen t) (opens ts),
+            countIf-add (isOpen s) (opens ss),
+          );
       opens-le = omega (arith, ih .opens-le, one .2, countIf-add (isOpen t) (opens ts), countIf-add (isOpen s) (opens ss));
     }
 
 -- what an index holds after freeing
-pub freed-at : (j : ℕ) (p : ℕ → Bool) (ss : List ℕ) (i : ℕ) → (statusAt (freedFrom j p ss) i ≡ statusAt ss i) ⊎ ((statusAt ss i ≡ 0) × (statusAt (freedFrom j p ss) i ≡ 1) × (p (j + i) ≡ true))
+pub freed-at : (j : ℕ) (p : ℕ → Bool) (ss : List ℕ) (i : ℕ)
+    → (statusAt (freedFrom j p ss) i ≡ statusAt ss i) ⊎ ((statusAt ss i ≡ 0) × (statusAt (freedFrom j p ss) i ≡ 1) × (p (j + i) ≡ true))
 freed-at j p [] i = inl refl
 freed-at j p (s ∷ ss) zero = here (p j) refl s
   where
@@ -92,7 +104,8 @@ length-candidates j (b ∷ m) (zero ∷ ss) h = ap suc (length-candidates (suc j
 length-candidates j (b ∷ m) (suc s ∷ ss) h = length-candidates (suc j) m ss (omega arith)
 
 -- a candidate is the first model's literal of an open variable
-pub candidate-open : (j : ℕ) (m : Values) (ss : List ℕ) {l : ℤ} → In l (candidatesFrom j m ss) → (i : ℕ) × (l ≡ literalAt (j + i) (valueAt m i)) × (statusAt ss i ≡ 0)
+pub candidate-open : (j : ℕ) (m : Values) (ss : List ℕ) {l : ℤ} → In l (candidatesFrom j m ss)
+    → (i : ℕ) × (l ≡ literalAt (j + i) (valueAt m i)) × (statusAt ss i ≡ 0)
 candidate-open j [] ss h = absurd (List·Memᴰ·not-nil h)
 candidate-open j (b ∷ m) [] h = absurd (List·Memᴰ·not-nil h)
 candidate-open j (b ∷ m) (zero ∷ ss) (List·Memᴰ·head e) = (0, rw add-zero e, refl)
@@ -141,20 +154,31 @@ forceFirst-counts (b ∷ m) (zero ∷ ss) (suc n) e h =
 forceFirst-counts (b ∷ m) (suc s ∷ ss) n e h =
     let ih = forceFirst-counts m ss n (omega arith) h in
     record {
-      forced-more = omega (arith, ih .forced-more, countIf-add (isForced (suc s)) (count isForced (forceFirst m ss n)), countIf-add (isForced (suc s)) (count isForced ss));
+      forced-more =
+          omega (
+            arith,
+            ih .forced-more,
+            countIf-add (isForced (suc s)) (count isForced (forceFirst m ss n)),
+            countIf-add (isForced (suc s)) (count isForced ss),
+          );
       free-same = ap (countIf (isFree (suc s))) (ih .free-same);
       opens-less = ih .opens-less;
     }
 
 -- what an index holds afterwards: what it held, or it was open, its literal is in the chunk, and its status is forced by its byte
-pub forceFirst-at : (j : ℕ) (m : Values) (ss : List ℕ) (n i : ℕ) → (statusAt (forceFirst m ss n) i ≡ statusAt ss i) ⊎ ((statusAt (forceFirst m ss n) i ≡ forcedBy (valueAt m i)) × In (literalAt (j + i) (valueAt m i)) (take n (candidatesFrom j m ss)))
+abbrev pub ForcedCases : ℕ → Values → List ℕ → ℕ → ℕ → Type 0
+ForcedCases j m ss n i =
+    (statusAt (forceFirst m ss n) i ≡ statusAt ss i)
+    ⊎ ((statusAt (forceFirst m ss n) i ≡ forcedBy (valueAt m i)) × In (literalAt (j + i) (valueAt m i)) (take n (candidatesFrom j m ss)))
+
+pub forceFirst-at : (j : ℕ) (m : Values) (ss : List ℕ) (n i : ℕ) → ForcedCases j m ss n i
 forceFirst-at j [] ss n i = inl refl
 forceFirst-at j (b ∷ m) [] n i = inl refl
 forceFirst-at j (b ∷ m) (zero ∷ ss) zero i = inl refl
 forceFirst-at j (b ∷ m) (zero ∷ ss) (suc n) zero = inr (refl, List·Memᴰ·head {x = literalAt j b} (rw add-zero))
 forceFirst-at j (b ∷ m) (zero ∷ ss) (suc n) (suc i) = go (forceFirst-at (suc j) m ss n i)
   where
-    go : (statusAt (forceFirst m ss n) i ≡ statusAt ss i) ⊎ ((statusAt (forceFirst m ss n) i ≡ forcedBy (valueAt m i)) × In (literalAt (suc j + i) (valueAt m i)) (take n (candidatesFrom (suc j) m ss))) → (statusAt (forceFirst m ss n) i ≡ statusAt ss i) ⊎ ((statusAt (forceFirst m ss n) i ≡ forcedBy (valueAt m i)) × In (literalAt (j + suc i) (valueAt m i)) (take (suc n) (candidatesFrom j (b ∷ m) (zero ∷ ss))))
+    go : ForcedCases (suc j) m ss n i → ForcedCases j (b ∷ m) (zero ∷ ss) (suc n) (suc i)
     go (inl e) = inl e
     go (inr (e, h)) = inr (e, rw (add-suc, ← suc-add) (List·Memᴰ·tail h))
 forceFirst-at j (b ∷ m) (suc s ∷ ss) n zero = inl refl
@@ -188,14 +212,19 @@ pub length-forcedValues : (ss : List ℕ) → length (forcedValues ss) ≡ lengt
 length-forcedValues ss = length-map ss forcedValue
 
 -- a value that is set is that of a forced variable, or there is no such variable
-pub forcedValues-at : (ss : List ℕ) (i : ℕ) → valueAt (forcedValues ss) i ≢ 0 → ((2 ≤ statusAt ss i) × (valueAt (forcedValues ss) i ≡ forcedValue (statusAt ss i))) ⊎ ((length ss ≤ i) × (valueAt (forcedValues ss) i ≡ 1))
+abbrev pub SetCases : List ℕ → ℕ → Type 0
+SetCases ss i =
+    ((2 ≤ statusAt ss i) × (valueAt (forcedValues ss) i ≡ forcedValue (statusAt ss i)))
+    ⊎ ((length ss ≤ i) × (valueAt (forcedValues ss) i ≡ 1))
+
+pub forcedValues-at : (ss : List ℕ) (i : ℕ) → valueAt (forcedValues ss) i ≢ 0 → SetCases ss i
 forcedValues-at [] i h = inr (omega arith, refl)
 forcedValues-at (zero ∷ ss) zero h = absurd (h refl)
 forcedValues-at (suc zero ∷ ss) zero h = absurd (h refl)
 forcedValues-at (suc (suc s) ∷ ss) zero h = inl (omega arith, refl)
 forcedValues-at (s ∷ ss) (suc i) h = go (forcedValues-at ss i h)
   where
-    go : ((2 ≤ statusAt ss i) × (valueAt (forcedValues ss) i ≡ forcedValue (statusAt ss i))) ⊎ ((length ss ≤ i) × (valueAt (forcedValues ss) i ≡ 1)) → ((2 ≤ statusAt ss i) × (valueAt (forcedValues ss) i ≡ forcedValue (statusAt ss i))) ⊎ ((suc (length ss) ≤ suc i) × (valueAt (forcedValues ss) i ≡ 1))
+    go : SetCases ss i → SetCases (s ∷ ss) (suc i)
     go (inl e) = inl e
     go (inr (e, f)) = inr (omega arith, f)
 

@@ -3,25 +3,22 @@
 --   length-tableOf    no table is longer than maxTable
 --
 -- Assumes nothing.
-use mathlib.Core.Path.{_≡_, refl, sym, _∙_, ap}
+use mathlib.Core.Path.{_≡_, refl, _∙_, ap}
 use mathlib.Core.Logic.{_⊎_, inl, inr}
 use mathlib.Core.List.{List, [], _∷_, _++_}
-use Prim.Native.Nat.{ℕ, zero, suc, _+_, _-_, _*_, _≤_, _<_}
+use Prim.Native.Nat.{ℕ, zero, suc, _+_, _-_, _*_, _≤_}
 use native.Mathlib.Omega.{arith}
-use lib.IntN.{ℤ}
-use lib.ListN.{length, drop, replicate, length-append, length-replicate}
+use lib.ListN.{length, length-append, length-replicate}
 use Rattle.rules.specs.declared.ReadAnswer.{ReadAnswer}
 use Rattle.rules.specs.declared.RunAnswer.{RunAnswer}
 use Rattle.rules.specs.declared.Report.{Report}
-use Rattle.rules.specs.Lists.{count}
-use Rattle.rules.specs.Numbers.{maxText, maxVars, maxEntries, readNumber, readPlace, runNumber, runPlace}
-use Rattle.rules.specs.Text.{Sizes}
+use Rattle.rules.specs.Numbers.{maxText, maxVars, maxEntries, readNumber, readPlace, runNumber}
 use Rattle.rules.specs.Reading.{Judged, accepted, refused, judge}
-use Rattle.rules.specs.Plain.{decimal}
 use Rattle.rules.specs.Run.{run}
-use Rattle.rules.specs.Answer.{Given, taskOf, isFree, isForced, refusalOf, reportOf, statusAfter, logLength}
+use Rattle.rules.specs.Answer.{Given, taskOf, isFree, isForced, reportOf, statusAfter}
 use Rattle.rules.specs.RunRefusals.{Accepted}
-use Rattle.rules.specs.Printed.{answerWord, callsWord, triesWord, forcedWord, freeWord, openWord, refusedWord, placeWord, refusedLine, answerLine, statusWords, statusLines, tableBy, tableGiven, tableOfJudged, tableOf, maxTable}
+use Rattle.rules.specs.Printed.{refusedLine, answerLine, statusWords, statusLines, tableBy}
+use Rattle.rules.specs.Printed.{tableBudget, tableGiven, tableOfJudged, tableOf, maxTable}
 use Rattle.rules.proofs.ListLaws.{count-le}
 use Rattle.rules.proofs.DecimalLaws.{decimal-most}
 use Rattle.rules.proofs.RefusalLaws.{refusal-sound}
@@ -59,10 +56,20 @@ length-refusedLine : (number place : ℕ) → number ≤ 99 → place ≤ maxTex
 length-refusedLine number place h k =
     simp length-append (omega (arith, decimal-most 2 number (omega arith) (omega arith), decimal-most 5 place (omega arith) (omega arith)))
 
-length-answerLine : (vars : ℕ) (r : Report) → vars ≤ maxVars → r .calls ≤ 257 → r .tries ≤ 1000000 → r .forced ≤ vars → r .free ≤ vars → length (answerLine vars r) ≤ 63
+length-answerLine : (vars : ℕ) (r : Report) → vars ≤ maxVars → r .calls ≤ 257
+    → r .tries ≤ tableBudget → r .forced ≤ vars → r .free ≤ vars → length (answerLine vars r) ≤ 63
 length-answerLine vars r v c t f e =
     simp length-append
-    (omega (arith, runNumber-le (r .answer), decimal-most 2 (runNumber (r .answer)) (omega arith) (omega (arith, runNumber-le (r .answer))), decimal-most 3 (r .calls) (omega arith) (omega arith), decimal-most 7 (r .tries) (omega arith) (omega arith), decimal-most 3 (r .forced) (omega arith) (omega arith), decimal-most 3 (r .free) (omega arith) (omega arith), decimal-most 3 (vars - r .forced - r .free) (omega arith) (omega arith)))
+    (omega (
+      arith,
+      runNumber-le (r .answer),
+      decimal-most 2 (runNumber (r .answer)) (omega arith) (omega (arith, runNumber-le (r .answer))),
+      decimal-most 3 (r .calls) (omega arith) (omega arith),
+      decimal-most 7 (r .tries) (omega arith) (omega arith),
+      decimal-most 3 (r .forced) (omega arith) (omega arith),
+      decimal-most 3 (r .free) (omega arith) (omega arith),
+      decimal-most 3 (vars - r .forced - r .free) (omega arith) (omega arith),
+    ))
 
 length-statusWords : (s : ℕ) → length (statusWords s) ≤ 11
 length-statusWords zero = omega arith
@@ -81,7 +88,7 @@ length-statusLines v (s ∷ ss) h =
 record Bounded (vars : ℕ) (r : Report) (ss : List ℕ) : Type 0 where
   vars-fit : vars ≤ maxVars
   calls-fit : r .calls ≤ 257
-  tries-fit : r .tries ≤ 1000000
+  tries-fit : r .tries ≤ tableBudget
   forced-fit : r .forced ≤ vars
   free-fit : r .free ≤ vars
   lines : length ss ≡ vars
@@ -94,14 +101,23 @@ length-tableBy {vars} {r} {ss} b = go (b .answer-is)
     first = length-answerLine vars r (b .vars-fit) (b .calls-fit) (b .tries-fit) (b .forced-fit) (b .free-fit)
 
     all-lines : length (answerLine vars r ++ statusLines 1 ss) ≤ maxTable
-    all-lines = omega (arith, first, length-append (answerLine vars r) (statusLines 1 ss), length-statusLines 1 ss (omega (arith, b .lines, b .vars-fit)), b .lines, b .vars-fit)
+    all-lines =
+        omega (
+          arith,
+          first,
+          length-append (answerLine vars r) (statusLines 1 ss),
+          length-statusLines 1 ss (omega (arith, b .lines, b .vars-fit)),
+          b .lines,
+          b .vars-fit,
+        )
 
-    go : (r .answer ≡ RunAnswer.Settled) ⊎ ((r .answer ≡ RunAnswer.NoModel) ⊎ (r .answer ≡ RunAnswer.Stopped)) → length (tableBy (r .answer) vars r ss) ≤ maxTable
+    go : (r .answer ≡ RunAnswer.Settled) ⊎ ((r .answer ≡ RunAnswer.NoModel) ⊎ (r .answer ≡ RunAnswer.Stopped))
+        → length (tableBy (r .answer) vars r ss) ≤ maxTable
     go (inl e) = rw (ap (λ (a : RunAnswer). length (tableBy a vars r ss)) e) all-lines
     go (inr (inl e)) = rw (ap (λ (a : RunAnswer). length (tableBy a vars r ss)) e) (omega (arith, first))
     go (inr (inr e)) = rw (ap (λ (a : RunAnswer). length (tableBy a vars r ss)) e) all-lines
 
-run-bounded : (g : Given) → Accepted g → g .budget ≤ 1000000 → length (g .status) ≡ g .vars → Bounded (g .vars) (reportOf g) (statusAfter g)
+run-bounded : (g : Given) → Accepted g → g .budget ≤ tableBudget → length (g .status) ≡ g .vars → Bounded (g .vars) (reportOf g) (statusAfter g)
 unfolding reportOf
 run-bounded g w b l =
     let limit = w .listed .lent .in-limits .limit-some in

@@ -5,18 +5,17 @@
 --   dimacs-runs       the entries of a DIMACS text are accepted by a run that has room
 --
 -- Assumes nothing.
-use mathlib.Core.Path.{_≡_, refl, sym, _∙_, ap}
-use mathlib.Core.Bool.{true, false}
+use mathlib.Core.Path.{_≡_, refl}
+use mathlib.Core.Bool.{true}
 use mathlib.Core.List.{List, [], _∷_, _++_}
-use Prim.Native.Nat.{ℕ, suc, _≤_}
+use Prim.Native.Nat.{ℕ, _≤_}
 use native.Mathlib.Omega.{arith}
 use lib.IntN.{ℤ, pos}
 use lib.ListN.{length}
 use Rattle.rules.specs.declared.ReadAnswer.{ReadAnswer}
-use Rattle.rules.specs.Lists.{In, count}
 use Rattle.rules.specs.Numbers.{maxEntries}
-use Rattle.rules.specs.Meaning.{Clause, varOf, clauses}
-use Rattle.rules.specs.Reading.{isZero, readingOf, filled, entriesAfter}
+use Rattle.rules.specs.Meaning.{Clause, clauses}
+use Rattle.rules.specs.Reading.{readingOf, filled, entriesAfter}
 use Rattle.rules.specs.Grammar.{ClausesOf, no-clause, clause, Dimacs}
 use Rattle.rules.specs.Plain.{plain, entriesOf, Within}
 use Rattle.rules.specs.Answer.{Given, isEnded}
@@ -26,7 +25,9 @@ use Rattle.rules.proofs.PlainLaws.{plain-dimacs, clauses-entriesOf, no-
 use Rattle.rules.proofs.ReadingTheorems.{read-accepts}
 
 -- a formula within the sizes, printed plainly and read into a long enough buffer: V, C, the entries, and the clauses again
-pub round-trip : (vars : ℕ) (F : List Clause) (before : List ℤ) → Within vars F → maxEntries ≤ length before → (readingOf (plain vars F) before ≡ record { answer = ReadAnswer.Accepted; vars = vars; clauses = length F; entries = length (entriesOf F) }) × (entriesAfter (plain vars F) before ≡ filled (entriesOf F) before) × (clauses (entriesOf F) ≡ F)
+pub round-trip : (vars : ℕ) (F : List Clause) (before : List ℤ) → Within vars F → maxEntries ≤ length before
+    → (readingOf (plain vars F) before ≡ record { answer = ReadAnswer.Accepted; vars = vars; clauses = length F; entries = length (entriesOf F) })
+    × (entriesAfter (plain vars F) before ≡ filled (entriesOf F) before) × (clauses (entriesOf F) ≡ F)
 round-trip vars F before w h =
     let (r, b) = read-accepts (plain vars F) before h (record { vars = vars; clauses = length F }) (entriesOf F) .0 (plain-dimacs vars F w) in
     (r, b, clauses-entriesOf F (no-zero-of-within w))
@@ -45,6 +46,13 @@ isEnded-of-clausesOf (clause cl {es = es} z c) = isEnded-behind cl es (isEnded-o
 pub dimacs-runs : {text : List ℕ} {n : ℕ} (g : Given) → Dimacs text (g .vars) n (g .entries) → Lent g → Accepted g
 dimacs-runs g d w =
     record {
-      listed = record { lent = w; entries-fit = d .entries-fit; ended = isEnded-of-clausesOf (d .exactly); clauses-fit = omega (arith, count-clausesOf (d .exactly), d .clauses-fit) };
+      listed =
+          record {
+            lent = w;
+            entries-fit = d .entries-fit;
+            ended = isEnded-of-clausesOf (d .exactly);
+            clauses-fit = omega
+                (arith, count-clausesOf (d .exactly), d .clauses-fit);
+          };
       up-to = d .up-to;
     }

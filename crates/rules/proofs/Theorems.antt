@@ -21,7 +21,7 @@ use Rattle.rules.specs.Grammar.{Dimacs}
 use Rattle.rules.specs.Refusals.{Refuses}
 use Rattle.rules.specs.Plain.{decimal, plain, entriesOf, Within}
 use Rattle.rules.specs.Meaning.{Clause, Values, clauses, LitUpTo, Proper}
-use Rattle.rules.specs.Closing.{stateOf, under-way, round, again, closing, Closed, clash, closed}
+use Rattle.rules.specs.Closing.{stateOf, under-way, round, again, closing, clash, closed}
 use Rattle.rules.specs.Visits.{Visits, Quiet}
 use Rattle.rules.specs.Search.{model, no-model, triesOf, onClosed, callOn}
 use Rattle.rules.specs.Units.{forcedClauses}

@@ -3,7 +3,7 @@
 --
 --   not-none, none-of-not         nothing is not something; what is no thing is nothing
 --   all-mono, any-of-all, any-append-of, any-append-right     tests that follow from others; any over `++`
---   blank-of-gap, digit-above, not-gap-of-digit, not-lf-of-gap     bytes
+--   blank-of-gap, digit-above, digit-most, not-gap-of-digit, not-lf-of-gap     bytes
 --   numeral-sound, numeral-complete, numeral-digits, numeral-says     1 to 9 digits; word-of-numeral: they have no blank
 --   entry-sound, entry-complete, entry-none     a token and the entry it says; word-of-token: it has no blank
 --   skipped-sound, skipped-complete     lines before the header
@@ -22,12 +22,12 @@ use borrow.Author.Tests.{eqb-true, ne-eqb, leb-true, le-leb}
 use Rattle.rules.specs.Lists.{any, all}
 use Rattle.rules.specs.Text.{isLf, isGap, isBlank, isDigit, isNumeral, numeral, Piece, isComment, isSkipped, negativeOf, entryIf, signedIf, entryOf}
 use Rattle.rules.specs.Grammar.{NoLf, Skipped, blanks, comment, Digits, Numeral, Token, plain, minus}
-use Rattle.rules.proofs.ListLaws.{never, not-true, and-left, and-right, all-sound, all-complete, any-of-none, any-append}
+use Rattle.rules.proofs.ListLaws.{apart, never, not-true, and-left, and-right, all-sound, all-complete, any-of-none, any-append, or-right}
 use Rattle.rules.proofs.ByteLaws.{blanks-sound, blanks-complete, noLf-sound, noLf-complete, digits-sound, digits-complete}
-use Rattle.rules.proofs.CutLaws.{or-right, Word}
+use Rattle.rules.proofs.CutLaws.{Word}
 
 pub not-none : {A : Type 0} {o : Option A} {a : A} → o ≡ some a → o ≡ none → ⊥
-not-none p q = let z : _≡_ {A = ℕ} 0 1 = cc in omega arith
+not-none p q = apart cc
 
 -- what nothing is read from is read as nothing
 pub none-of-not : {A : Type 0} (o : Option A) → ((a : A) → o ≡ some a → ⊥) → o ≡ none
@@ -60,6 +60,9 @@ not-blank b h = rw (ne-eqb b 32 (omega arith), ne-eqb b 9 (omega arith), ne-eqb 
 
 pub digit-above : (b : ℕ) → isDigit b ≡ true → 48 ≤ b
 digit-above b h = leb-true 48 b (and-left (leb 48 b) (leb b 57) h)
+
+pub digit-most : (b : ℕ) → isDigit b ≡ true → b ≤ 57
+digit-most b h = leb-true b 57 (and-right (leb 48 b) (leb b 57) h)
 
 pub not-gap-of-digit : (b : ℕ) → isDigit b ≡ true → isGap b ≡ false
 not-gap-of-digit b h = rw (ne-eqb b 32 (omega (arith, digit-above b h)), ne-eqb b 9 (omega (arith, digit-above b h)))

@@ -26,12 +26,14 @@ use Rattle.rules.specs.Numbers.{maxText, maxVars, maxClauses, maxEntries
 use Rattle.rules.specs.Text.{Piece, Sizes, linesOf, tokensFrom, isSkipped, headerOf}
 use Rattle.rules.specs.Reading.{Judged, accepted, refused, isZero, behind, fits, judgeEnd, judgeTokens, judgeHeader, judgeLines, judge}
 use Rattle.rules.specs.Grammar.{Header}
-use Rattle.rules.specs.Refusals.{Begun, FirstLine, Headed, Fine, AtToken, Refuses, short-buffer, long-text, no-header, bad-header, large-header, bad-token, token-behind, token-over-vars, many-tokens, short-text}
+use Rattle.rules.specs.Refusals.{Begun, FirstLine, Headed, Fine, AtToken, Refuses, short-buffer, long-text, no-header}
+use Rattle.rules.specs.Refusals.{bad-header, large-header, bad-token, token-behind, token-over-vars, many-tokens, short-text}
 use Rattle.rules.proofs.ListLaws.{le-or-lt, not-true, and-left, and-right}
 use Rattle.rules.proofs.TokenLaws.{not-none}
 use Rattle.rules.proofs.HeaderLaws.{header-sound, header-complete, header-none}
 use Rattle.rules.proofs.LineLaws.{first-line-sound, first-line-exists}
-use Rattle.rules.proofs.JudgeLaws.{Passes, count-of-passes, fine-of-passes, passes-of-fine, Stop, bad, after-last, above, over, Stopped, tokens-cases, withEntries, withEntries-refused, withEntries-accepted, judgeTokens-end, judgeTokens-stopped}
+use Rattle.rules.proofs.JudgeLaws.{Passes, count-of-passes, fine-of-passes, passes-of-fine, Stop, bad, after-last, above, over, Stopped}
+use Rattle.rules.proofs.JudgeLaws.{tokens-cases, withEntries, withEntries-refused, withEntries-accepted, judgeTokens-end, judgeTokens-stopped}
 
 abbrev pub tokensOf : List ℕ → Piece → List Piece
 tokensOf text line = tokensFrom (behind line) (drop (behind line) text)
@@ -154,8 +156,17 @@ module _ (room : ℕ) (text : List ℕ) where
 
   verdict-of-end : (line : Piece) (s : Sizes) (es : List ℤ) → Begun room text → Headed text line s
       → Passes s 0 0 (tokensOf text line) es → (s .clauses ≤ count isZero es) ⊎ (count isZero es < s .clauses) → Judgement room text
-  verdict-of-end line s es b h p (inl k) =
-      (accepted s es, accepts (record { begun = b; line = line; headed = h; fine = fine-of-passes p; exactly = omega (arith, count-of-passes p (omega arith)) }))
+  verdict-of-end line s es b h p (inl k) = (
+    accepted s es,
+    accepts (record {
+      begun = b;
+      line = line;
+      headed = h;
+      fine = fine-of-passes p;
+      exactly = omega
+          (arith, count-of-passes p (omega arith));
+    }),
+  )
   verdict-of-end line s es b h p (inr k) = (refused (ReadAnswer.ShortText (length text)), refuses (short-text line s es b h (fine-of-passes p) k))
 
   verdict-of-headed : (line : Piece) (s : Sizes) → Begun room text → Headed text line s → Judgement room text

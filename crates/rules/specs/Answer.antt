@@ -1,10 +1,10 @@
 -- docs/RULES.md, "What comes back", for the run: its refusals in their order, what it returns, and what the two lent buffers hold
 -- afterwards. Assumes nothing.
 use mathlib.Core.Path.{_≡_}
-use mathlib.Core.Bool.{Bool, true, false, not, _||_}
+use mathlib.Core.Bool.{Bool, true, not, _||_}
 use mathlib.Core.List.{List, [], _∷_, _++_, map}
 use mathlib.Core.Option.{Option, none, some}
-use Prim.Native.Nat.{ℕ, zero, suc, _+_, _-_, _*_}
+use Prim.Native.Nat.{ℕ, _+_, _-_, _*_}
 use lib.Dec.{eqb, leb, ltb}
 use lib.IntN.{ℤ}
 use lib.ListN.{length, drop, replicate}
@@ -14,7 +14,7 @@ use Rattle.rules.specs.Lists.{any, count, joined, nthIndex, Check, check
 use Rattle.rules.specs.Numbers.{maxVars, maxClauses, maxEntries, maxChunk, outcomeNumber}
 use Rattle.rules.specs.Meaning.{varOf, clauses}
 use Rattle.rules.specs.Reading.{isZero}
-use Rattle.rules.specs.Run.{Task, Row, Progress, Ended, run}
+use Rattle.rules.specs.Run.{Task, Row, Ended, run}
 
 -- what a run is given, and the two buffers as they are lent
 pub record Given : Type 0 where
@@ -44,15 +44,21 @@ isEnded (e ∷ f ∷ es) = isEnded (f ∷ es)
 abbrev pub isAbove : ℕ → ℤ → Bool
 isAbove vars l = ltb vars (varOf l)
 
+-- 11 and 12: what a list is refused for, whoever takes it
+abbrev pub listRules : List ℤ → ℕ → List (Check RunAnswer)
+listRules es vars =
+    check (ltb maxEntries (length es)) (RunAnswer.BadList maxEntries) ∷
+    check (not (isEnded es)) (RunAnswer.BadList (length es)) ∷
+    check (ltb maxClauses (count isZero es)) (RunAnswer.BadList (nthIndex isZero es maxClauses)) ∷
+    check (any (isAbove vars) es) (RunAnswer.EntryOverVars (nthIndex (isAbove vars) es 0)) ∷
+    []
+
+-- 10 and 1, then the list
 abbrev pub runRules : Given → List (Check RunAnswer)
 runRules g =
     check (ltb maxVars (g .vars) || (eqb (g .limit) 0 || ltb maxChunk (g .limit))) RunAnswer.BadLimits ∷
     check (ltb (length (g .status)) (g .vars) || ltb (length (g .log)) (logLength (g .vars))) RunAnswer.ShortBuffer ∷
-    check (ltb maxEntries (length (g .entries))) (RunAnswer.BadList maxEntries) ∷
-    check (not (isEnded (g .entries))) (RunAnswer.BadList (length (g .entries))) ∷
-    check (ltb maxClauses (count isZero (g .entries))) (RunAnswer.BadList (nthIndex isZero (g .entries) maxClauses)) ∷
-    check (any (isAbove (g .vars)) (g .entries)) (RunAnswer.EntryOverVars (nthIndex (isAbove (g .vars)) (g .entries) 0)) ∷
-    []
+    listRules (g .entries) (g .vars)
 
 unfoldable pub refusalOf : Given → Option RunAnswer
 refusalOf g = firstOf (runRules g)

@@ -7,7 +7,7 @@ use Rattle.rules.specs.declared.Lit.{Lit}
 use Rattle.rules.specs.declared.ClauseState.{ClauseState}
 use Rattle.rules.specs.declared.ClauseState.the-variants.{False, Unit, True, Undecided}
 use Rattle.rules.specs.Lists.{all, keep, eqz}
-use Rattle.rules.specs.Meaning.{Clause, Values, isTrue, isUnset, assign, hasTrue}
+use Rattle.rules.specs.Meaning.{Clause, Values, isUnset, assign, hasTrue}
 
 -- ---- the state of a clause
 

@@ -57,7 +57,8 @@ pub record Numeral (ds : List ℕ) (n : ℕ) : Type 0 where
   pub most : length ds ≤ 9
 
 pub data Header : List ℕ → ℕ → ℕ → Type 0 where
-  header : {g h k v c end : List ℕ} {vars clauses : ℕ} → Gap g → Gap h → Numeral v vars → Gap k → Numeral c clauses → Blanks end → NoLf end → Header (112 ∷ g ++ 99 ∷ 110 ∷ 102 ∷ h ++ v ++ k ++ c ++ end) vars clauses
+  header : {g h k v c end : List ℕ} {vars clauses : ℕ} → Gap g → Gap h → Numeral v vars → Gap k → Numeral c clauses
+      → Blanks end → NoLf end → Header (112 ∷ g ++ 99 ∷ 110 ∷ 102 ∷ h ++ v ++ k ++ c ++ end) vars clauses
 
 -- ---- tokens behind it
 
@@ -77,7 +78,8 @@ pub data Body : List ℕ → List ℤ → Type 0 where
 -- the header line ends at LF or the end of text
 pub data Text : List ℕ → ℕ → ℕ → List ℤ → Type 0 where
   header-only : {a h : List ℕ} {vars clauses : ℕ} → Before a → Header h vars clauses → Text (a ++ h) vars clauses []
-  with-body : {a h rest : List ℕ} {vars clauses : ℕ} {es : List ℤ} → Before a → Header h vars clauses → Body rest es → Text (a ++ h ++ 10 ∷ rest) vars clauses es
+  with-body : {a h rest : List ℕ} {vars clauses : ℕ} {es : List ℤ} → Before a
+      → Header h vars clauses → Body rest es → Text (a ++ h ++ 10 ∷ rest) vars clauses es
 
 -- ---- entries: exactly n clauses, each ended by 0
 

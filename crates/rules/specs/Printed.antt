@@ -2,7 +2,6 @@
 use mathlib.Core.Path.{_≡_}
 use mathlib.Core.Bool.{Bool, true, false}
 use mathlib.Core.List.{List, [], _∷_, _++_}
-use mathlib.Core.Option.{Option, none, some}
 use Prim.Native.Nat.{ℕ, zero, suc, _-_}
 use lib.IntN.{ℤ}
 use lib.Dec.{leb}
@@ -98,14 +97,20 @@ tableBy (RunAnswer.EntryOverVars at) vars r ss = refusedLine (runNumber (r .answ
 abbrev pub tableOfRun : ℕ → Report → List ℕ → List ℕ
 tableOfRun vars r ss = tableBy (r .answer) vars r ss
 
--- budget 1,000,000 and chunk limit 16, with buffers of just the size
+abbrev pub tableBudget : ℕ
+tableBudget = 1000000
+
+abbrev pub tableChunk : ℕ
+tableChunk = 16
+
+-- that budget and that chunk limit, with buffers of just the size
 abbrev pub tableGiven : Sizes → List ℤ → Given
 tableGiven s es =
     record {
       entries = es;
       vars = s .vars;
-      budget = 1000000;
-      limit = 16;
+      budget = tableBudget;
+      limit = tableChunk;
       status = replicate (s .vars) 0;
       log = replicate (logLength (s .vars)) 0;
     }

@@ -4,8 +4,8 @@ use mathlib.Core.Path.{_≡_}
 use mathlib.Core.Logic.{_⊎_}
 use mathlib.Core.Bool.{true, false}
 use mathlib.Core.List.{List, [], _∷_, _++_}
-use Prim.Native.Nat.{ℕ, suc, _≤_, _<_}
-use lib.IntN.{ℤ, pos}
+use Prim.Native.Nat.{ℕ, _≤_, _<_}
+use lib.IntN.{ℤ}
 use lib.ListN.{length, drop}
 use Rattle.rules.specs.declared.ReadAnswer.{ReadAnswer}
 use Rattle.rules.specs.Lists.{In, all, count}
@@ -63,13 +63,21 @@ pub data Refuses (room : ℕ) (text : List ℕ) : ReadAnswer → Type 0 where
   long-text : maxEntries ≤ room → maxText < length text → Refuses room text ReadAnswer.LongText
   -- 3: missing, or malformed
   no-header : Begun room text → all isSkipped (linesOf text) ≡ true → Refuses room text (ReadAnswer.BadHeader (length text))
-  bad-header : (line : Piece) → Begun room text → FirstLine text line → ((v c : ℕ) → Header (line .bytes) v c → ⊥) → Refuses room text (ReadAnswer.BadHeader (line .at))
+  bad-header : (line : Piece) → Begun room text → FirstLine text line
+      → ((v c : ℕ) → Header (line .bytes) v c → ⊥) → Refuses room text (ReadAnswer.BadHeader (line .at))
   -- 4
-  large-header : (line : Piece) (v c : ℕ) → Begun room text → FirstLine text line → Header (line .bytes) v c → (maxVars < v) ⊎ (maxClauses < c) → Refuses room text (ReadAnswer.LargeHeader (line .at))
+  large-header : (line : Piece) (v c : ℕ) → Begun room text → FirstLine text line → Header (line .bytes) v c
+      → (maxVars < v) ⊎ (maxClauses < c) → Refuses room text (ReadAnswer.LargeHeader (line .at))
   -- 5, 6, 7, 8 at one token
-  bad-token : (s : Sizes) (es : List ℤ) (t : Piece) → AtToken room text s es t → ((l : ℤ) → Token (t .bytes) l → ⊥) → Refuses room text (ReadAnswer.BadToken (t .at))
-  token-behind : (s : Sizes) (es : List ℤ) (t : Piece) (l : ℤ) → AtToken room text s es t → Token (t .bytes) l → count isZero es ≡ s .clauses → Refuses room text (ReadAnswer.TokenBehind (t .at))
-  token-over-vars : (s : Sizes) (es : List ℤ) (t : Piece) (l : ℤ) → AtToken room text s es t → Token (t .bytes) l → count isZero es < s .clauses → s .vars < varOf l → Refuses room text (ReadAnswer.TokenOverVars (t .at))
-  many-tokens : (s : Sizes) (es : List ℤ) (t : Piece) (l : ℤ) → AtToken room text s es t → Token (t .bytes) l → count isZero es < s .clauses → varOf l ≤ s .vars → length es ≡ maxEntries → Refuses room text (ReadAnswer.ManyTokens (t .at))
+  bad-token : (s : Sizes) (es : List ℤ) (t : Piece) → AtToken room text s es t
+      → ((l : ℤ) → Token (t .bytes) l → ⊥) → Refuses room text (ReadAnswer.BadToken (t .at))
+  token-behind : (s : Sizes) (es : List ℤ) (t : Piece) (l : ℤ) → AtToken room text s es t
+      → Token (t .bytes) l → count isZero es ≡ s .clauses → Refuses room text (ReadAnswer.TokenBehind (t .at))
+  token-over-vars : (s : Sizes) (es : List ℤ) (t : Piece) (l : ℤ) → AtToken room text s es t → Token (t .bytes) l
+      → count isZero es < s .clauses → s .vars < varOf l → Refuses room text (ReadAnswer.TokenOverVars (t .at))
+  many-tokens : (s : Sizes) (es : List ℤ) (t : Piece) (l : ℤ) → AtToken room text s es t → Token (t .bytes) l
+      → count isZero es < s .clauses → varOf l ≤ s .vars → length es ≡ maxEntries → Refuses room text (ReadAnswer.ManyTokens (t .at))
   -- 9: the text ends inside a clause or before C clauses
-  short-text : (line : Piece) (s : Sizes) (es : List ℤ) → Begun room text → Headed text line s → Fine s (tokensFrom (behind line) (drop (behind line) text)) es → count isZero es < s .clauses → Refuses room text (ReadAnswer.ShortText (length text))
+  short-text : (line : Piece) (s : Sizes) (es : List ℤ) → Begun room text
+      → Headed text line s → Fine s (tokensFrom (behind line) (drop (behind line) text)) es
+      → count isZero es < s .clauses → Refuses room text (ReadAnswer.ShortText (length text))

@@ -4,7 +4,7 @@ use mathlib.Core.Path.{_≡_}
 use mathlib.Core.Logic.{_⊎_}
 use mathlib.Core.Bool.{true, false}
 use mathlib.Core.List.{List, [], _∷_, _++_}
-use Prim.Native.Nat.{ℕ, _≤_, _<_}
+use Prim.Native.Nat.{_≤_, _<_}
 use lib.IntN.{ℤ, pos}
 use lib.ListN.{length}
 use Rattle.rules.specs.declared.RunAnswer.{RunAnswer}
@@ -45,7 +45,10 @@ pub data RunRefuses (g : Given) : RunAnswer → Type 0 where
   short-buffer : InLimits g → (length (g .status) < g .vars) ⊎ (length (g .log) < logLength (g .vars)) → RunRefuses g RunAnswer.ShortBuffer
   -- 11: too long; not empty and not ended by 0; a zero behind 1,024 others
   list-long : Lent g → maxEntries < length (g .entries) → RunRefuses g (RunAnswer.BadList maxEntries)
-  not-ended : Lent g → length (g .entries) ≤ maxEntries → (front : List ℤ) (l : ℤ) → g .entries ≡ front ++ (l ∷ []) → isZero l ≡ false → RunRefuses g (RunAnswer.BadList (length (g .entries)))
-  zero-over : Lent g → length (g .entries) ≤ maxEntries → isEnded (g .entries) ≡ true → (front back : List ℤ) → g .entries ≡ front ++ pos 0 ∷ back → count isZero front ≡ maxClauses → RunRefuses g (RunAnswer.BadList (length front))
+  not-ended : Lent g → length (g .entries) ≤ maxEntries → (front : List ℤ) (l : ℤ)
+      → g .entries ≡ front ++ (l ∷ []) → isZero l ≡ false → RunRefuses g (RunAnswer.BadList (length (g .entries)))
+  zero-over : Lent g → length (g .entries) ≤ maxEntries → isEnded (g .entries) ≡ true → (front back : List ℤ)
+      → g .entries ≡ front ++ pos 0 ∷ back → count isZero front ≡ maxClauses → RunRefuses g (RunAnswer.BadList (length front))
   -- 12: the first variable above V
-  entry-over-vars : Listed g → (front : List ℤ) (l : ℤ) (back : List ℤ) → g .entries ≡ front ++ l ∷ back → ((k : ℤ) → In k front → varOf k ≤ g .vars) → g .vars < varOf l → RunRefuses g (RunAnswer.EntryOverVars (length front))
+  entry-over-vars : Listed g → (front : List ℤ) (l : ℤ) (back : List ℤ) → g .entries ≡ front ++ l ∷ back
+      → ((k : ℤ) → In k front → varOf k ≤ g .vars) → g .vars < varOf l → RunRefuses g (RunAnswer.EntryOverVars (length front))

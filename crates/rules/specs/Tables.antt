@@ -10,7 +10,7 @@ use Rattle.rules.specs.Text.{isLf}
 use Rattle.rules.specs.Meaning.{clauses}
 use Rattle.rules.specs.Plain.{decimal}
 use Rattle.rules.specs.Run.{Task}
-use Rattle.rules.specs.Printed.{answerWord}
+use Rattle.rules.specs.Printed.{answerWord, tableBudget, tableChunk}
 
 -- the line with this number, from 0: so the line of variable v has the number v
 abbrev pub lineAt : List ℕ → ℕ → List ℕ
@@ -23,4 +23,4 @@ pub record SaysAnswer (n : ℕ) (table : List ℕ) : Type 0 where
 
 -- the run of the table program: budget 1,000,000 and chunk limit 16
 abbrev pub tableTask : ℕ → List ℤ → Task
-tableTask vars es = record { vars = vars; budget = 1000000; limit = 16; formula = clauses es }
+tableTask vars es = record { vars = vars; budget = tableBudget; limit = tableChunk; formula = clauses es }

@@ -6,7 +6,7 @@ use mathlib.Core.Option.{Option, none, some}
 use Prim.Native.Nat.{ℕ, zero, suc, _+_, _-_, _*_}
 use lib.Dec.{eqb, leb}
 use lib.IntN.{ℤ, pos, negsuc}
-use lib.ListN.{length, drop}
+use lib.ListN.{length}
 use Rattle.rules.specs.Lists.{all, keep, cut, eqs}
 
 -- ---- bytes

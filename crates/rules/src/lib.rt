@@ -1,4 +1,4 @@
-// The types that the definitions in specs/ name, and the sizes of docs/RULES.md, "Sizes". Of functions only the numbers of the answers
+// The types that the definitions in specs/ name, and the numbers of docs/RULES.md. Of functions only the numbers of the answers
 // are here: the crates above compute what specs/ defines, and theorems about it stand in proofs/.
 pub mod numbers;
 
@@ -21,6 +21,16 @@ pub const MAX_CLAUSES: u32 = 1024;
 pub const MAX_ENTRIES: usize = 4096;
 
 pub const MAX_CHUNK: u32 = 256;
+
+// "What comes back": the log of a run on as many variables as there may be, six numbers for each call.
+pub const MAX_LOG: usize = 6 * (MAX_VARS as usize + 1);
+
+// "The printed table": budget and chunk limit of its run, and the longest one.
+pub const TABLE_BUDGET: u32 = 1000000;
+
+pub const TABLE_CHUNK: u32 = 16;
+
+pub const MAX_TABLE: usize = 4096;
 
 // What a clause is under some values ("Closing").
 pub enum ClauseState {

@@ -10,7 +10,7 @@ fn main() {
     let none = &list[..0];
     let mut starts = [0u16; 1];
     find_starts(none, &mut starts);
-    let mut values = [0u8; 256];
+    let mut values = [0u8; rules::MAX_VARS as usize];
     let meter = Meter {
         budget: 1000,
         spent: 0,

@@ -3,7 +3,7 @@
 use libc::STDIN_FILENO;
 
 fn main() {
-    let mut text = [0u8; 32769];
+    let mut text = [0u8; rules::MAX_TEXT + 1];
     let n = io::read_full(STDIN_FILENO, &mut text);
     output::write_table(&text[..n]);
 }

@@ -38,6 +38,6 @@ fn show_words(name: &mut [u8], text: &mut [u8]) {
 
 fn main() {
     let mut name = [0u8; 256];
-    let mut text = [0u8; 32769];
+    let mut text = [0u8; rules::MAX_TEXT + 1];
     show_words(&mut name, &mut text);
 }

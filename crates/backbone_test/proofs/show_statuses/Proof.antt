@@ -1,6 +1,5 @@
 -- `backbone_test::show_statuses` ends and stays within its slice. The measure is what is left. Assumes nothing.
 use Prim.Native.Nat.{_≤_, _-_}
-use native.Mathlib.Omega.{arith}
 use borrow.Author.Needs.{needs}
 use lib.ListN.{length}
 use Rattle.backbone_test.proofs.show_statuses.Statement.{statement}

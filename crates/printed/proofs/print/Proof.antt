@@ -25,7 +25,7 @@ same-length c = search needs
 returns-2 : tie.Need-returns-2
 returns-2 c =
     let put = c .before .before .before in
-    prints-table (put .before .before .before .if1 .left) (put .put-text .ensures .0)
+    prints-table (put .before .before .before .if1 .left) (put .put-text .ensures .put)
 
 pub print-spec : {M : Type 1} → statement M
 print-spec =

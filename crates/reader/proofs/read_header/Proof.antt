@@ -60,7 +60,8 @@ returns-2 c =
     let at-header-of = at-h .before .before in
     let start = at-header-of .before .before .before in
     stores-refused (start .args .entries .now)
-    (line-large (start .args .text .now) (start .args .from) (start .args .to) (at-h .h .given .0 .0) (sym (at-header-of .header-of .ensures) ∙ at-h .h .given .1) (large (c .before)))
+    (line-large (start .args .text .now) (start .args .from) (start .args .to) (at-h .h .given .0 .0)
+    (sym (at-header-of .header-of .ensures) ∙ at-h .h .given .1) (large (c .before)))
     (c .refused2 .ensures)
 
 add-read-tokens : tie.Need-add-read-tokens
@@ -80,7 +81,8 @@ returns-3 c =
     let start = at-header-of .before .before .before in
     let s = start in
     stores-of
-    (line-fits (start .args .text .now) (start .args .from) (start .args .to) (at-h .h .given .0 .0) (sym (at-header-of .header-of .ensures) ∙ at-h .h .given .1) (small (else2)) (s .pre .0) (s .pre .1))
+    (line-fits (start .args .text .now) (start .args .from) (start .args .to) (at-h .h .given .0 .0)
+    (sym (at-header-of .header-of .ensures) ∙ at-h .h .given .1) (small (else2)) (s .pre .0) (s .pre .1))
     (c .before .read-tokens .ensures)
 
 pub read-header-spec : {M : Type 1} → statement M

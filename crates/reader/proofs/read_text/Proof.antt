@@ -23,7 +23,8 @@ read-header-requires c κs =
     let at-from = c .before .before in
     let at-first-line = at-from .before .before in
     let start = at-first-line .before .before in
-    let w = line-inside (start .args .text .now) (at-from .from .given .0 .0) (at-from .from .given .0 .1 .0) (sym (at-first-line .first-line .ensures) ∙ at-from .from .given .1) in
+    let line = sym (at-first-line .first-line .ensures) ∙ at-from .from .given .1 in
+    let w = line-inside (start .args .text .now) (at-from .from .given .0 .0) (at-from .from .given .0 .1 .0) line in
     (w .ends, w .most, start .pre)
 
 returns : tie.Need-returns
@@ -43,7 +44,8 @@ returns-2 c =
     let at-first-line = at-from .before .before in
     let start = at-first-line .before .before in
     stores-of
-    (text-line (start .args .text .now) (at-from .from .given .0 .0) (at-from .from .given .0 .1 .0) (sym (at-first-line .first-line .ensures) ∙ at-from .from .given .1))
+    (text-line (start .args .text .now) (at-from .from .given .0 .0) (at-from .from .given .0 .1 .0)
+    (sym (at-first-line .first-line .ensures) ∙ at-from .from .given .1))
     (c .before .read-header .ensures)
 
 pub read-text-spec : {M : Type 1} → statement M

@@ -1,15 +1,13 @@
 -- `first_above` meets its contract. The invariant of its loop: the index looked for is that in what is left. The measure is
 -- what is left. Assumes nothing.
-use mathlib.Core.Path.{_≡_, refl, sym, _∙_, ap}
-use Prim.Native.Nat.{ℕ, _-_}
-use native.Mathlib.Omega.{arith}
+use mathlib.Core.Path.{_≡_, refl, _∙_, ap}
+use Prim.Native.Nat.{_-_}
 use borrow.Author.Needs.{needs}
 use borrow.Author.Tests.{lt-ltb, le-ltb}
-use lib.Dec.{ltb}
 use lib.IntN.{ℤ, pos}
 use lib.ListN.{length, getD}
 use Rattle.rules.specs.Meaning.{varOf}
-use Rattle.formula.proofs.SignedLaws.{toZ-ofZ-at}
+use Rattle.rules.proofs.BitLaws.{toZ-ofZ-at}
 use Rattle.rules.specs.Answer.{isAbove}
 use Rattle.refusals.proofs.RefuseLaws.{Seek, seek-start, seek-pass, seek-found, seek-done}
 use Rattle.refusals.proofs.first_above.Statement.{statement}
@@ -48,7 +46,8 @@ unfolding here
 returns c =
     let v = c .before .before in
     let at-loop = v .before .before .before in
-    seek-found (at-loop .loop .inv) (v .before .before .loop-test .taken) (lt-ltb (at-loop .before .args .vars) (varOf (here at-loop)) (rw (var-is v) at (c .if1 .taken))) refl
+    seek-found (at-loop .loop .inv) (v .before .before .loop-test .taken)
+    (lt-ltb (at-loop .before .args .vars) (varOf (here at-loop)) (rw (var-is v) at (c .if1 .taken))) refl
 
 add-i : tie.Need-add-i Inv-loop μ-loop
 add-i c = search needs
@@ -61,7 +60,8 @@ unfolding here
 loop-again c =
     let v = c .before .before in
     let at-loop = v .before .before .before in
-    seek-pass (at-loop .loop .inv) (v .before .before .loop-test .taken) (le-ltb (at-loop .before .args .vars) (varOf (here at-loop)) (rw (var-is v) at (c .if1 .left)))
+    seek-pass (at-loop .loop .inv) (v .before .before .loop-test .taken)
+    (le-ltb (at-loop .before .args .vars) (varOf (here at-loop)) (rw (var-is v) at (c .if1 .left)))
 
 returns-2 : tie.Need-returns-2 Inv-loop μ-loop
 returns-2 c = seek-done (c .before .loop .inv) (c .loop-test .left)

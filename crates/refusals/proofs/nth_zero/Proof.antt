@@ -1,8 +1,6 @@
 -- `nth_zero` meets its contract. The invariant of its loop: the index looked for is that in what is left. The measure is what
 -- is left. Assumes nothing.
-use mathlib.Core.Path.{_≡_, sym, _∙_}
 use Prim.Native.Nat.{_-_}
-use native.Mathlib.Omega.{arith}
 use borrow.Author.Needs.{needs}
 use lib.IntN.{ℤ, pos}
 use lib.ListN.{length, getD}
@@ -37,7 +35,8 @@ returns : tie.Need-returns Inv-loop μ-loop
 unfolding here
 returns c =
     let e = c .before .before in
-    seek-found (e .before .before .loop .inv) (e .before .loop-test .taken) (isZero-same (here (e .before .before)) (e .entry .given) (c .before .if1 .taken)) (c .if2 .taken)
+    seek-found (e .before .before .loop .inv) (e .before .loop-test .taken)
+    (isZero-same (here (e .before .before)) (e .entry .given) (c .before .if1 .taken)) (c .if2 .taken)
 
 sub-left : tie.Need-sub-left Inv-loop μ-loop
 sub-left c = search needs
@@ -49,7 +48,8 @@ loop-again : tie.Need-loop-again Inv-loop μ-loop
 unfolding here
 loop-again c =
     let e = c .before .before in
-    seek-count (e .before .before .loop .inv) (e .before .loop-test .taken) (isZero-same (here (e .before .before)) (e .entry .given) (c .before .if1 .taken)) (c .if2 .left)
+    seek-count (e .before .before .loop .inv) (e .before .loop-test .taken)
+    (isZero-same (here (e .before .before)) (e .entry .given) (c .before .if1 .taken)) (c .if2 .left)
 
 loop-less-2 : tie.Need-loop-less-2 Inv-loop μ-loop
 loop-less-2 c = search needs

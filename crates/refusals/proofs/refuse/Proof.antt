@@ -1,11 +1,10 @@
 -- `refuse` meets its contract: each way out by the rule that it keeps. Assumes nothing.
-use mathlib.Core.Path.{refl}
+use mathlib.Core.Path.{_∙_}
 use mathlib.Core.Logic.{inl, inr}
 use native.Mathlib.Omega.{arith}
 use borrow.Author.Needs.{needs}
-use Rattle.rules.specs.Answer.{given}
-use Rattle.rules.specs.RunRefusals.{InLimits, Lent, bad-limits, short-buffer}
-use Rattle.refusals.proofs.FoundLaws.{refused-is}
+use Rattle.rules.specs.RunRefusals.{bad-limits, short-buffer}
+use Rattle.refusals.proofs.FoundLaws.{refused-is, lent-is}
 use Rattle.refusals.proofs.refuse.Statement.{statement}
 use Rattle.refusals.proofs.refuse.Tie as tie
 
@@ -34,7 +33,10 @@ refuse-list-requires : tie.Need-refuse-list-requires
 refuse-list-requires c κs = search needs
 
 returns-6 : tie.Need-returns-6
-returns-6 c = λ b. c .refuse-list .ensures _ refl refl (record { in-limits = omega arith; status-fits = c .before .before .if4 .left; log-fits = c .before .if5 .left })
+returns-6 c =
+    λ b.
+    c .refuse-list .ensures ∙
+    lent-is _ (record { in-limits = omega arith; status-fits = c .before .before .if4 .left; log-fits = c .before .if5 .left })
 
 pub refuse-spec : {M : Type 1} → statement M
 refuse-spec =

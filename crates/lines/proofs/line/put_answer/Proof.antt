@@ -3,7 +3,6 @@ use mathlib.Core.Path.{_≡_, sym, _∙_, ap}
 use mathlib.Core.List.{List, _++_}
 use Prim.Native.Nat.{ℕ, _-_}
 use borrow.Author.Needs.{needs}
-use Rattle.rules.specs.Numbers.{runNumber}
 use Rattle.rules.specs.Printed.{answerLine}
 use Rattle.lines.specs.Put.{Room}
 use Rattle.lines.specs.Lines.{countFields, endFields}

@@ -30,7 +30,8 @@ room-forced c =
     let s = c .before .before .before .before in
     room-then (forcedField s) (behind-forced s) (s .pre) (c .put-field .ensures)
 
-room-free : (c : tie.After-put-field2) → Room (c .put-field2 .result) (behind-free (c .before .before .before .before .before .before .before .before .before)) (c .put-field2 .last .0)
+room-free : (c : tie.After-put-field2)
+    → Room (c .put-field2 .result) (behind-free (c .before .before .before .before .before .before .before .before .before)) (c .put-field2 .last .0)
 room-free c =
     let forced = c .before .before .before .before .before in
     let s = forced .before .before .before .before in

@@ -1,6 +1,6 @@
 -- `line::put_refused` meets its contract: the number, the place, LF. Assumes nothing.
 use mathlib.Core.Path.{sym}
-use mathlib.Core.List.{List, [], _∷_, _++_}
+use mathlib.Core.List.{[], _∷_, _++_}
 use borrow.Author.Needs.{needs}
 use Rattle.rules.specs.Plain.{decimal}
 use Rattle.rules.specs.Printed.{refusedWord, placeWord}
@@ -15,7 +15,8 @@ use Rattle.lines.proofs.line.put_refused.Tie as tie
 room : (s : tie.Start) → Room (s .args .at) (refusedFields (s .args .number) (s .args .place)) (s .args .out .now)
 room s = room-same (sym (refused-line (s .args .number) (s .args .place))) (s .pre)
 
-room-number : (c : tie.After-put-field) → Room (c .put-field .result) ((placeWord ++ decimal (c .before .before .before .before .args .place)) ++ 10 ∷ []) (c .put-field .last .0)
+room-number : (c : tie.After-put-field)
+    → Room (c .put-field .result) ((placeWord ++ decimal (c .before .before .before .before .args .place)) ++ 10 ∷ []) (c .put-field .last .0)
 room-number c =
     let s = c .before .before .before .before in
     room-then (refusedWord ++ decimal (s .args .number)) ((placeWord ++ decimal (s .args .place)) ++ 10 ∷ []) (room s) (c .put-field .ensures)
@@ -51,7 +52,8 @@ returns c =
     let place = ended .before .before .before .before in
     let number = place .before .before .before .before .before in
     let s = number .before .before .before .before in
-    put-same (refused-line (s .args .number) (s .args .place)) (put-then (number .put-field .ensures) (put-then (place .put-field2 .ensures) (ended .put-byte .ensures)))
+    put-same (refused-line (s .args .number) (s .args .place))
+    (put-then (number .put-field .ensures) (put-then (place .put-field2 .ensures) (ended .put-byte .ensures)))
 
 pub put-refused-spec : {M : Type 1} → statement M
 put-refused-spec =

@@ -61,7 +61,8 @@ returns-4 c =
     let put = c .before .before in
     let other = put .before .before .before in
     let s = other .before .before .before .before in
-    put-same (sym (words-off (s .args .status) (omega (arith, other .if3 .left, other .before .if2 .left, other .before .before .if1 .left)))) (put .put-word4 .ensures)
+    put-same (sym (words-off (s .args .status) (omega (arith, other .if3 .left, other .before .if2 .left, other .before .before .if1 .left))))
+    (put .put-word4 .ensures)
 
 pub put-status-spec : {M : Type 1} → statement M
 put-status-spec =

@@ -17,7 +17,8 @@ put-decimal-requires c κs =
     room-first (decimal (s .args .v .0)) (statusWords (s .args .status) ++ 10 ∷ []) (s .pre)
 
 -- the room that the number leaves
-behind-variable : (c : tie.After-put-decimal) → Room (c .put-decimal .result) (statusWords (c .before .before .before .before .args .status) ++ 10 ∷ []) (c .put-decimal .last .0)
+behind-variable : (c : tie.After-put-decimal)
+    → Room (c .put-decimal .result) (statusWords (c .before .before .before .before .args .status) ++ 10 ∷ []) (c .put-decimal .last .0)
 behind-variable c =
     let s = c .before .before .before .before in
     room-then (decimal (s .args .v .0)) (statusWords (s .args .status) ++ 10 ∷ []) (s .pre) (c .put-decimal .ensures)

@@ -28,7 +28,11 @@ returns c =
     let put = c .before .before in
     let ran = put .before .before .before .before .before .before .before in
     let s = ran .before .before .before .before .before .before in
-    (put-same (run-table (s .pre .0 .runs) (s .pre .1) (ran .run .ensures)) (put .put-table .ensures), ran .run .ensures .status-is, ran .run .ensures .log-is)
+    record {
+      put = put-same (run-table (s .pre .0 .runs) (s .pre .1) (ran .run .ensures)) (put .put-table .ensures);
+      status-is = ran .run .ensures .status-is;
+      log-is = ran .run .ensures .log-is;
+    }
 
 pub put-run-spec : {M : Type 1} → statement M
 put-run-spec =

@@ -1,7 +1,6 @@
 -- `table::put_table` meets its contract: the answer line alone after 20, and else the lines behind it. Assumes nothing.
 use mathlib.Core.Path.{_≡_, sym, _∙_}
-use mathlib.Core.List.{List, _++_}
-use Prim.Native.Nat.{ℕ}
+use mathlib.Core.List.{_++_}
 use native.Mathlib.Omega.{arith}
 use borrow.Author.Needs.{needs}
 use Rattle.rules.specs.Printed.{answerLine, statusLines, tableOfRun}
@@ -25,10 +24,14 @@ returns c =
     let number = first .before .before in
     let s = number .before .before .before in
     let r = s .args .report in
-    put-same (sym (table-first (r .answer) (s .args .vars) r (s .args .status .now) (s .pre .ended) (sym (number .run-number .ensures) ∙ c .if1 .taken))) (first .put-answer .ensures)
+    put-same
+    (sym (table-first (r .answer) (s .args .vars) r (s .args .status .now) (s .pre .ended) (sym (number .run-number .ensures) ∙ c .if1 .taken)))
+    (first .put-answer .ensures)
 
 -- the table, after 0 and 21
-whole : (c : tie.Else1) → let s = c .before .before .before .before .before .before .before .before in tableOfRun (s .args .vars) (s .args .report) (s .args .status .now) ≡ answerLine (s .args .vars) (s .args .report) ++ statusLines 1 (s .args .status .now)
+whole : (c : tie.Else1)
+    → let a = c .before .before .before .before .before .before .before .before .args in
+    tableOfRun (a .vars) (a .report) (a .status .now) ≡ answerLine (a .vars) (a .report) ++ statusLines 1 (a .status .now)
 whole c =
     let number = c .before .before .before .before .before in
     let s = number .before .before .before in
@@ -39,7 +42,9 @@ put-lines-requires : tie.Need-put-lines-requires
 put-lines-requires c κs =
     let first = c .before .before .before .before in
     let s = first .before .before .before .before .before in
-    (room-then (answerLine (s .args .vars) (s .args .report)) (statusLines 1 (s .args .status .now)) (room-same (whole (c .before)) (s .pre .room)) (first .put-answer .ensures), s .pre .vars-fit)
+    let a = s .args in
+    let room = room-same (whole (c .before)) (s .pre .room) in
+    (room-then (answerLine (a .vars) (a .report)) (statusLines 1 (a .status .now)) room (first .put-answer .ensures), s .pre .vars-fit)
 
 same-length-2 : tie.Need-same-length-2
 same-length-2 c = search needs

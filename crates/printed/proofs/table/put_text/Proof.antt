@@ -18,7 +18,9 @@ read-number-requires : tie.Need-read-number-requires
 read-number-requires c κs = search needs
 
 -- the list of an accepted text
-listed : (c : tie.Then1) → let read = c .before .before .before in ReadList (read .before .before .before .before .args .text .now) (read .read .result) (read .read .last .1 .0)
+listed : (c : tie.Then1)
+    → let read = c .before .before .before in
+    ReadList (read .before .before .before .before .args .text .now) (read .read .result) (read .read .last .1 .0)
 listed c =
     let number = c .before in
     let read = number .before .before in
@@ -46,19 +48,25 @@ returns : tie.Need-returns
 returns c =
     let put = c .before .before in
     let accepted = put .before .before .before in
-    (put-same (sym (listed accepted .table-is)) (put .put-list .ensures), accepted .before .before .before .read .ensures .after-is)
+    record {
+      put = put-same (sym (listed accepted .table-is)) (put .put-list .ensures);
+      entries-are = accepted .before .before .before .read .ensures .after-is;
+    }
 
 read-place-requires : tie.Need-read-place-requires
 read-place-requires c κs = search needs
 
 -- the line of a refused one
-line : (c : tie.After-read-place) → refusedLine (c .before .before .read-number .result) (c .read-place .result) ≡ tableOf (c .before .before .before .before .before .before .before .before .args .text .now)
+line : (c : tie.After-read-place) → refusedLine (c .before .before .read-number .result) (c .read-place .result)
+    ≡ tableOf (c .before .before .before .before .before .before .before .before .args .text .now)
 line c =
     let number = c .before .before in
     let read = number .before .before in
     ap (λ (n : ℕ). refusedLine n (c .read-place .result)) (number .read-number .ensures) ∙
     ap (λ (n : ℕ). refusedLine (readNumber (read .read .result .answer)) n) (c .read-place .ensures) ∙
-    sym (read-line (read .read .ensures) (read .before .before .before .before .pre .1) (λ e. omega (arith, number .read-number .ensures, c .before .if1 .left, e)))
+    sym
+    (read-line (read .read .ensures) (read .before .before .before .before .pre .1)
+    (λ e. omega (arith, number .read-number .ensures, c .before .if1 .left, e)))
 
 put-refused-requires : tie.Need-put-refused-requires
 put-refused-requires c κs = room-same (sym (line (c .before))) (c .before .before .before .before .before .before .before .before .before .pre .0)
@@ -73,7 +81,10 @@ returns-2 : tie.Need-returns-2
 returns-2 c =
     let put = c .before .before in
     let place = put .before .before in
-    (put-same (line place) (put .put-refused .ensures), place .before .before .before .before .read .ensures .after-is)
+    record {
+      put = put-same (line place) (put .put-refused .ensures);
+      entries-are = place .before .before .before .before .read .ensures .after-is;
+    }
 
 pub put-text-spec : {M : Type 1} → statement M
 put-text-spec =

@@ -1,7 +1,7 @@
 -- `reader::header::trimmed_len` meets its contract. The invariant of its loop: the first n bytes without the blanks behind are
 -- the line without them. The measure is n. Assumes nothing.
 use mathlib.Core.Path.{_≡_, sym, _∙_, ap}
-use Prim.Native.Nat.{ℕ, _≤_, _-_}
+use Prim.Native.Nat.{ℕ, _≤_}
 use native.Mathlib.Omega.{arith}
 use borrow.Author.Tests.{not-true, not-false}
 use borrow.Author.Needs.{needs}
@@ -36,8 +36,11 @@ returns c =
     let at-loop = in-loop .before in
     let start = at-loop .before .before in
     let l = at-loop .loop in
-    record
-    { within = l .inv .0; is = trim-done (start .args .line .now) (l .n) (in-loop .loop-test .taken) (l .inv .0) (sym (c .before .is-blank .ensures) ∙ not-true _ (c .if1 .taken)) ∙ l .inv .1 }
+    record {
+      within = l .inv .0;
+      is = trim-done (start .args .line .now) (l .n) (in-loop .loop-test .taken) (l .inv .0)
+          (sym (c .before .is-blank .ensures) ∙ not-true _ (c .if1 .taken)) ∙ l .inv .1;
+    }
 
 sub-n : tie.Need-sub-n Inv-loop μ-loop
 sub-n c = search needs
@@ -52,7 +55,9 @@ loop-again c =
     let start = at-loop .before .before in
     let l = at-loop .loop in (
       search needs,
-      sym (trim-step (start .args .line .now) (l .n) (in-loop .loop-test .taken) (l .inv .0) (sym (c .before .is-blank .ensures) ∙ not-false _ (c .if1 .left))) ∙ l .inv .1,
+      sym
+          (trim-step (start .args .line .now) (l .n) (in-loop .loop-test .taken) (l .inv .0)
+          (sym (c .before .is-blank .ensures) ∙ not-false _ (c .if1 .left))) ∙ l .inv .1,
     )
 
 returns-2 : tie.Need-returns-2 Inv-loop μ-loop
@@ -60,8 +65,11 @@ returns-2 c =
     let start = c .before .before .before in
     let l = c .before .loop in
     let z : l .n ≡ 0 = omega arith in
-    record
-    { within = l .inv .0; is = ap (λ (k : ℕ). take k (start .args .line .now)) z ∙ ap (λ (k : ℕ). trimmed (take k (start .args .line .now))) (sym z) ∙ l .inv .1 }
+    record {
+      within = l .inv .0;
+      is = ap (λ (k : ℕ). take k (start .args .line .now)) z ∙ ap (λ (k : ℕ). trimmed (take k (start .args .line .now))) (sym z) ∙
+          l .inv .1;
+    }
 
 pub trimmed-len-spec : {M : Type 1} → statement M
 trimmed-len-spec =

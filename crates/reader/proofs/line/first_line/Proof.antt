@@ -53,7 +53,8 @@ returns c =
     let f = at-find in
     let l = f .before .before .loop in
     sym
-    (line-found (f .before .before .before .before .args .text .now) (l .at) (f .find .result) (end-is f) (f .before .loop-test .taken) (sym (c .before .is-skipped .ensures) ∙ not-true _ (c .if1 .taken)))
+    (line-found (f .before .before .before .before .args .text .now) (l .at) (f .find .result) (end-is f) (f .before .loop-test .taken)
+    (sym (c .before .is-skipped .ensures) ∙ not-true _ (c .if1 .taken)))
     ∙
     l .inv .1
 
@@ -77,7 +78,9 @@ loop-again c =
     let f = at-find in
     let l = f .before .before .loop in (
       omega (arith, end-is f, from-le isLf (f .before .before .before .before .args .text .now) (l .at) (f .before .loop-test .taken)),
-      sym (line-past (f .before .before .before .before .args .text .now) (l .at) (f .find .result) (end-is f) (f .before .loop-test .taken) (sym (c .before .is-skipped .ensures) ∙ not-false _ (c .if1 .left))) ∙ l .inv .1,
+      sym
+          (line-past (f .before .before .before .before .args .text .now) (l .at) (f .find .result) (end-is f) (f .before .loop-test .taken)
+          (sym (c .before .is-skipped .ensures) ∙ not-false _ (c .if1 .left))) ∙ l .inv .1,
     )
 
 returns-2 : tie.Need-returns-2 Inv-loop μ-loop

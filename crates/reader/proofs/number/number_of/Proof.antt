@@ -8,7 +8,9 @@ use borrow.Author.Tests.{not-true, not-false}
 use borrow.Author.Needs.{needs}
 use lib.ListN.{length, getD}
 use Rattle.rules.specs.Text.{isDigit}
-use Rattle.reader.proofs.NumberLaws.{not-number-none, not-number-long, not-number-byte, digit-low, digit-high, Digits, digits-start, digits-small, digits-step, digits-done}
+use Rattle.rules.proofs.TokenLaws.{digit-above, digit-most}
+use Rattle.reader.proofs.NumberLaws.{not-number-none, not-number-long, not-number-byte}
+use Rattle.reader.proofs.NumberLaws.{Digits, digits-start, digits-small, digits-step, digits-done}
 use Rattle.reader.proofs.number.number_of.Statement.{statement}
 use Rattle.reader.proofs.number.number_of.Tie as tie
 
@@ -26,12 +28,12 @@ digit c = sym (c .before .is-digit .ensures) ∙ not-false _ (c .if3 .left)
 low :
     (c : tie.Else3 Inv-loop μ-loop) →
     48 ≤ getD (c .before .before .before .before .before .before .before .before .args .word .now) (c .before .before .before .before .loop .i) 0
-low c = digit-low _ (digit c)
+low c = digit-above _ (digit c)
 
 high :
     (c : tie.Else3 Inv-loop μ-loop) →
     getD (c .before .before .before .before .before .before .before .before .args .word .now) (c .before .before .before .before .loop .i) 0 ≤ 57
-high c = digit-high _ (digit c)
+high c = digit-most _ (digit c)
 
 small : (c : tie.Else3 Inv-loop μ-loop) → c .before .before .before .before .loop .n < 100000000
 small c =

@@ -20,7 +20,9 @@ use Rattle.reader.proofs.tokens.judge_entry.Tie as tie
 -- the clauses complete, after a closing zero or another entry
 closes :
     (c : tie.After-value-of) →
-    c .before .before .if4 .clauses ≡ countIf (isZero (valueOf (c .before .before .before .before .before .before .before .before .before .before .before .before .args .e))) (c .before .before .before .before .before .before .before .before .before .before .before .before .args .c .clauses)
+    c .before .before .if4 .clauses
+    ≡ countIf (isZero (valueOf (c .before .before .before .before .before .before .before .before .before .before .before .before .args .e)))
+    (c .before .before .before .before .before .before .before .before .before .before .before .before .args .c .clauses)
 closes c =
     let e = c .before .before .before .before .before .before .before .before .before .before .before .before .args .e in
     ⊎-elim (λ w. rw (zero-is e, eq-eqb _ _ (w .0 .taken)) (w .1 ∙ add-one _))
@@ -60,7 +62,8 @@ returns-4 c =
     let start = else1 .before .before .before in
     let s = start in
     rw (var-is (s .args .e), lt-leb _ _ (else1 .if1 .left), le-ltb _ _ (else2 .if2 .left), lt-leb _ _ (else3 .if3 .left))
-    (ap₂ (λ (l : ℤ) (k : ℕ). Step.Store l (record { at = s .args .to; clauses = k; entries = s .args .c .entries + 1 })) (ap (λ (l : ℤ). toZ w32 (ofZ w32 l)) (c .value-of .ensures) ∙ value-back (s .args .e) (omega (arith, else2 .if2 .left, s .pre))) (closes c))
+    (ap₂ (λ (l : ℤ) (k : ℕ). Step.Store l (record { at = s .args .to; clauses = k; entries = s .args .c .entries + 1 }))
+    (ap (λ (l : ℤ). toZ w32 (ofZ w32 l)) (c .value-of .ensures) ∙ value-back (s .args .e) (omega (arith, else2 .if2 .left, s .pre))) (closes c))
 
 pub judge-entry-spec : {M : Type 1} → statement M
 judge-entry-spec =

@@ -1,14 +1,15 @@
 -- `reader::tokens::next_step` meets its contract. The two searches find the next token, or that there is none. Assumes nothing.
-use mathlib.Core.Path.{sym, _∙_, ap}
+use mathlib.Core.Path.{_≡_, sym, _∙_, ap}
 use mathlib.Core.Bool.{Bool}
 use Prim.Native.Nat.{_≤_}
 use native.Mathlib.Omega.{arith}
 use borrow.Author.Tests.{lt-ltb, le-ltb}
 use borrow.Author.Needs.{needs}
+use lib.Dec.{ltb}
 use lib.ListN.{length}
 use Rattle.rules.specs.Text.{isBlank}
 use Rattle.reader.specs.Words.{valueOf}
-use Rattle.reader.specs.Steps.{endStep, entryStep}
+use Rattle.reader.specs.Steps.{endStep, entryStep, stepOf}
 use Rattle.reader.proofs.ScanLaws.{from-le}
 use Rattle.reader.proofs.StepLaws.{step-end, step-bad, step-entry}
 use Rattle.reader.proofs.tokens.next_step.Statement.{statement}
@@ -24,21 +25,25 @@ to-le c =
 find-requires : tie.Need-find-requires
 find-requires c κs = search needs
 
+-- where no token is left, the text ends
+at-end : (c : tie.Then1)
+    → let s = c .before .before .before .args in
+    stepOf (s .h) (s .text .now) (s .c) ≡ endStep (ltb (s .c .clauses) (s .h .clauses)) (length (s .text .now))
+at-end c =
+    let s = c .before .before .before .args in
+    step-end (s .h) (s .text .now) (s .c) (c .before .find .result) (c .before .find .ensures) (c .if1 .taken)
+
 returns : tie.Need-returns
 returns c =
     let then1 = c .before .before .before in
-    let at-find = then1 .before in
-    let start = at-find .before .before in
-    sym
-    (step-end (start .args .h) (start .args .text .now) (start .args .c) (at-find .find .result) (at-find .find .ensures) (then1 .if1 .taken) ∙ ap (λ (t : Bool). endStep t (length (start .args .text .now))) (lt-ltb _ _ (c .if2 .taken)))
+    let n = length (then1 .before .before .before .args .text .now) in
+    sym (at-end then1 ∙ ap (λ (t : Bool). endStep t n) (lt-ltb _ _ (c .if2 .taken)))
 
 returns-2 : tie.Need-returns-2
 returns-2 c =
     let then1 = c .before .before .before in
-    let at-find = then1 .before in
-    let start = at-find .before .before in
-    sym
-    (step-end (start .args .h) (start .args .text .now) (start .args .c) (at-find .find .result) (at-find .find .ensures) (then1 .if1 .taken) ∙ ap (λ (t : Bool). endStep t (length (start .args .text .now))) (le-ltb _ _ (c .if2 .left)))
+    let n = length (then1 .before .before .before .args .text .now) in
+    sym (at-end then1 ∙ ap (λ (t : Bool). endStep t n) (le-ltb _ _ (c .if2 .left)))
 
 find-requires-2 : tie.Need-find-requires-2
 find-requires-2 c κs = search needs
@@ -64,36 +69,34 @@ enum-known-e c = search needs
 judge-entry-requires : tie.Need-judge-entry-requires
 judge-entry-requires c κs = search needs
 
+-- where the token starts and where it ends
+abbrev from : tie.After-token-of → tie.After-find
+from c = c .before .before .before .before
+
+abbrev to : tie.After-token-of → tie.After-find2
+to c = c .before .before
+
 returns-3 : tie.Need-returns-3
 returns-3 c =
-    let at-token-of = c .before .before in
-    let at-find2 = at-token-of .before .before in
-    let else1 = at-find2 .before in
-    let at-find = else1 .before in
-    let start = at-find .before .before in
-    let s = start .args in
-    let f = at-find .find in
-    let t = at-find2 .find2 in
-    let there = else1 .if1 .left in
+    let at = c .before .before in
+    let s = from at .before .before .args in
+    let f = from at .find in
+    let t = to at .find2 in
     sym
-    (step-bad (s .h) (s .text .now) (s .c) (f .result) (t .result) (f .ensures) (t .ensures) there (sym (at-token-of .token-of .ensures) ∙ c .enum-told .given .1))
+    (step-bad (s .h) (s .text .now) (s .c) (f .result) (t .result) (f .ensures) (t .ensures) (to at .before .if1 .left)
+    (sym (at .token-of .ensures) ∙ c .enum-told .given .1))
 
 returns-4 : tie.Need-returns-4
 returns-4 c =
-    let at-e = c .before .before in
-    let at-token-of = at-e .before .before in
-    let at-find2 = at-token-of .before .before in
-    let else1 = at-find2 .before in
-    let at-find = else1 .before in
-    let start = at-find .before .before in
-    let s = start .args in
-    let f = at-find .find in
-    let t = at-find2 .find2 in
-    let there = else1 .if1 .left in
-    let e = at-e .e .given in
+    let e = c .before .before .e .given in
+    let at = c .before .before .before .before in
+    let s = from at .before .before .args in
+    let f = from at .find in
+    let t = to at .find2 in
     _∙_ {b = entryStep (s .h) (s .c) (f .result) (t .result) (valueOf (e .0 .0))} (c .judge-entry .ensures)
     (sym
-    (step-entry (s .h) (s .text .now) (s .c) (f .result) (t .result) (e .0 .0) (f .ensures) (t .ensures) there (sym (at-token-of .token-of .ensures) ∙ e .1)))
+    (step-entry (s .h) (s .text .now) (s .c) (f .result) (t .result) (e .0 .0) (f .ensures) (t .ensures) (to at .before .if1 .left)
+    (sym (at .token-of .ensures) ∙ e .1)))
 
 pub next-step-spec : {M : Type 1} → statement M
 next-step-spec =

@@ -19,7 +19,8 @@ abbrev μ-loop : tie.MeasureT-loop
 -- the entry that is stored, and what is left behind it
 stored :
     (c : tie.After-known-told2 Inv-loop μ-loop) →
-    Next (c .before .before .before .before .before .before .args .h) (c .before .before .before .before .before .before .args .text .now) (c .before .before .before .before .loop .c)
+    Next (c .before .before .before .before .before .before .args .h) (c .before .before .before .before .before .before .args .text .now)
+    (c .before .before .before .before .loop .c)
     (c .before .x .given .0 .0) (c .before .x .given .0 .1 .0)
 stored c =
     let at-next-step = c .before .before .before in
@@ -96,7 +97,8 @@ loop-again c =
     let l = at-loop .loop in
     let x = c .before .x .given .0 .0 in
     rw (held x (omega (arith, stored c .var, s .pre .0)))
-    (progress-step (s .args .h) (s .args .text .now) (s .args .from) (s .args .entries .now) (s .pre .1) (l .c) (l .entries) (l .inv) x (c .before .x .given .0 .1 .0) (stored c))
+    (progress-step (s .args .h) (s .args .text .now) (s .args .from) (s .args .entries .now) (s .pre .1) (l .c) (l .entries) (l .inv) x
+    (c .before .x .given .0 .1 .0) (stored c))
 
 pub read-tokens-spec : {M : Type 1} → statement M
 read-tokens-spec =
