@@ -1,3 +1,4 @@
-// Buffers that are lent: clearing and copying.
+// Buffers that are lent: clearing, copying, and putting bytes, words and numbers at a cursor.
 pub mod clear;
 pub mod copy;
+pub mod put;

@@ -1,2 +1,1 @@
-pub mod PutLaws
 pub mod LineLaws

@@ -19,9 +19,9 @@ use Rattle.rules.specs.Numbers.{runNumber}
 use Rattle.rules.specs.Plain.{decimal}
 use Rattle.rules.specs.Printed.{answerWord, callsWord, triesWord, forcedWord, freeWord, openWord, offWord}
 use Rattle.rules.specs.Printed.{refusedWord, placeWord, refusedLine, answerLine, statusWords, statusLines}
-use Rattle.lines.specs.Put.{Room, Put}
+use Rattle.buffers.specs.Put.{Room, Put}
 use Rattle.lines.specs.Lines.{countFields, endFields, refusedFields, statusLine}
-use Rattle.lines.proofs.PutLaws.{length-put, room-first, room-then, room-same, put-then, put-same, put-none}
+use Rattle.buffers.proofs.PutLaws.{length-put, room-first, room-then, room-same, put-then, put-same, put-none}
 
 -- ---- fields
 

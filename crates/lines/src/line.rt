@@ -3,12 +3,12 @@ ghost use Prim.Native.Nat.{_+_, _≤_};
 ghost use lib.ListN.{length};
 ghost use Rattle.rules.specs.Numbers.{maxVars};
 ghost use Rattle.rules.specs.Printed.{refusedLine, answerLine, statusWords, statusLines};
-ghost use Rattle.lines.specs.Put.{Put, Room};
+ghost use Rattle.buffers.specs.Put.{Put, Room};
 ghost use Rattle.lines.specs.Lines.{statusLine, countFields, endFields};
-use crate::put::put_byte;
-use crate::put::put_decimal;
-use crate::put::put_field;
-use crate::put::put_word;
+use buffers::put::put_byte;
+use buffers::put::put_decimal;
+use buffers::put::put_field;
+use buffers::put::put_word;
 
 // The line of a refusal.
 // Rules out: number and place exchanged; a line without LF.

@@ -40,9 +40,9 @@ use Rattle.rules.proofs.BufferTheorems.{length-statusAfter}
 use Rattle.rules.proofs.RefusalLaws.{refusal-sound}
 use Rattle.rules.proofs.PrintedLaws.{table-runs}
 use Rattle.rules.proofs.TableLaws.{length-tableOf}
-use Rattle.lines.specs.Put.{Room, Put}
+use Rattle.buffers.specs.Put.{Room, Put}
 use Rattle.printed.specs.Table.{listGiven, tableOfList, Sized, Ended, TableReady}
-use Rattle.lines.proofs.PutLaws.{putAt-front, room-first, room-same}
+use Rattle.buffers.proofs.PutLaws.{putAt-front, room-first, room-same}
 
 -- ---- by the number of the answer
 

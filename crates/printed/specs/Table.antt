@@ -13,7 +13,7 @@ use Rattle.rules.specs.Reading.{accepted, entriesAfter}
 use Rattle.rules.specs.Answer.{Given, logLength, statusAfter, logAfter}
 use Rattle.rules.specs.RunRefusals.{Accepted}
 use Rattle.rules.specs.Printed.{tableOfRun, tableGiven, tableOfJudged, tableOf}
-use Rattle.lines.specs.Put.{Room, Put}
+use Rattle.buffers.specs.Put.{Room, Put}
 
 -- the number of clauses is not looked at
 abbrev pub sizes : ℕ → Sizes

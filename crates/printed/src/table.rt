@@ -4,7 +4,7 @@ ghost use lib.ListN.{length};
 ghost use Rattle.rules.specs.Numbers.{maxEntries};
 ghost use Rattle.rules.specs.Answer.{given};
 ghost use Rattle.rules.specs.Printed.{tableOf, tableOfRun, tableBudget, tableChunk};
-ghost use Rattle.lines.specs.Put.{Put, Room};
+ghost use Rattle.buffers.specs.Put.{Put, Room};
 ghost use Rattle.printed.specs.Table.{tableOfList, ListReady, Sized, TableReady, RunPut, TextPut};
 use lines::line::put_answer;
 use lines::line::put_lines;

@@ -4,9 +4,9 @@ use mathlib.Core.List.{List, _++_}
 use Prim.Native.Nat.{ℕ, _-_}
 use borrow.Author.Needs.{needs}
 use Rattle.rules.specs.Printed.{answerLine}
-use Rattle.lines.specs.Put.{Room}
+use Rattle.buffers.specs.Put.{Room}
 use Rattle.lines.specs.Lines.{countFields, endFields}
-use Rattle.lines.proofs.PutLaws.{room-first, room-then, room-same, put-then, put-same}
+use Rattle.buffers.proofs.PutLaws.{room-first, room-then, room-same, put-then, put-same}
 use Rattle.lines.proofs.LineLaws.{answer-line}
 use Rattle.lines.proofs.line.put_answer.Statement.{statement}
 use Rattle.lines.proofs.line.put_answer.Tie as tie

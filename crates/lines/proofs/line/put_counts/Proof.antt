@@ -4,8 +4,8 @@ use Prim.Native.Nat.{ℕ}
 use borrow.Author.Needs.{needs}
 use Rattle.rules.specs.Plain.{decimal}
 use Rattle.rules.specs.Printed.{answerWord, callsWord, triesWord}
-use Rattle.lines.specs.Put.{Room}
-use Rattle.lines.proofs.PutLaws.{room-first, room-then, put-then}
+use Rattle.buffers.specs.Put.{Room}
+use Rattle.buffers.proofs.PutLaws.{room-first, room-then, put-then}
 use Rattle.lines.proofs.line.put_counts.Statement.{statement}
 use Rattle.lines.proofs.line.put_counts.Tie as tie
 

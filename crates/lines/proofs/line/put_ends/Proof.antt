@@ -4,8 +4,8 @@ use Prim.Native.Nat.{ℕ}
 use borrow.Author.Needs.{needs}
 use Rattle.rules.specs.Plain.{decimal}
 use Rattle.rules.specs.Printed.{forcedWord, freeWord, openWord}
-use Rattle.lines.specs.Put.{Room}
-use Rattle.lines.proofs.PutLaws.{room-first, room-then, put-then}
+use Rattle.buffers.specs.Put.{Room}
+use Rattle.buffers.proofs.PutLaws.{room-first, room-then, put-then}
 use Rattle.lines.proofs.line.put_ends.Statement.{statement}
 use Rattle.lines.proofs.line.put_ends.Tie as tie
 

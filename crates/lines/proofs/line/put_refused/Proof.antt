@@ -4,9 +4,9 @@ use mathlib.Core.List.{[], _∷_, _++_}
 use borrow.Author.Needs.{needs}
 use Rattle.rules.specs.Plain.{decimal}
 use Rattle.rules.specs.Printed.{refusedWord, placeWord}
-use Rattle.lines.specs.Put.{Room}
+use Rattle.buffers.specs.Put.{Room}
 use Rattle.lines.specs.Lines.{refusedFields}
-use Rattle.lines.proofs.PutLaws.{room-first, room-then, room-same, put-then, put-same}
+use Rattle.buffers.proofs.PutLaws.{room-first, room-then, room-same, put-then, put-same}
 use Rattle.lines.proofs.LineLaws.{refused-line}
 use Rattle.lines.proofs.line.put_refused.Statement.{statement}
 use Rattle.lines.proofs.line.put_refused.Tie as tie

@@ -3,7 +3,7 @@ use mathlib.Core.Path.{sym, ap}
 use native.Mathlib.Omega.{arith}
 use borrow.Author.Needs.{needs}
 use Rattle.rules.specs.Printed.{statusWords}
-use Rattle.lines.proofs.PutLaws.{room-same, put-same}
+use Rattle.buffers.proofs.PutLaws.{room-same, put-same}
 use Rattle.lines.proofs.LineLaws.{words-off}
 use Rattle.lines.proofs.line.put_status.Statement.{statement}
 use Rattle.lines.proofs.line.put_status.Tie as tie

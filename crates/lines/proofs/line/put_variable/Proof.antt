@@ -3,8 +3,8 @@ use mathlib.Core.List.{[], _∷_, _++_}
 use borrow.Author.Needs.{needs}
 use Rattle.rules.specs.Plain.{decimal}
 use Rattle.rules.specs.Printed.{statusWords}
-use Rattle.lines.specs.Put.{Room}
-use Rattle.lines.proofs.PutLaws.{room-first, room-then, put-then}
+use Rattle.buffers.specs.Put.{Room}
+use Rattle.buffers.proofs.PutLaws.{room-first, room-then, put-then}
 use Rattle.lines.proofs.line.put_variable.Statement.{statement}
 use Rattle.lines.proofs.line.put_variable.Tie as tie
 

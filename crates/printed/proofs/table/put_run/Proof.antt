@@ -1,6 +1,6 @@
 -- `table::put_run` meets its contract: the table is that of what the run left. Assumes nothing.
 use borrow.Author.Needs.{needs}
-use Rattle.lines.proofs.PutLaws.{put-same}
+use Rattle.buffers.proofs.PutLaws.{put-same}
 use Rattle.printed.proofs.TableLaws.{run-ready, run-table}
 use Rattle.printed.proofs.table.put_run.Statement.{statement}
 use Rattle.printed.proofs.table.put_run.Tie as tie

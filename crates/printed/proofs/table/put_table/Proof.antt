@@ -4,7 +4,7 @@ use mathlib.Core.List.{_++_}
 use native.Mathlib.Omega.{arith}
 use borrow.Author.Needs.{needs}
 use Rattle.rules.specs.Printed.{answerLine, statusLines, tableOfRun}
-use Rattle.lines.proofs.PutLaws.{room-then, room-same, put-then, put-same}
+use Rattle.buffers.proofs.PutLaws.{room-then, room-same, put-then, put-same}
 use Rattle.printed.proofs.TableLaws.{table-room, table-first, table-lines}
 use Rattle.printed.proofs.table.put_table.Statement.{statement}
 use Rattle.printed.proofs.table.put_table.Tie as tie

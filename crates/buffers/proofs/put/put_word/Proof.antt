@@ -1,12 +1,12 @@
--- `put::put_word` meets its contract. The invariant of its loop: what is put and what is still to put are the word. The measure is
+-- `buffers::put::put_word` meets its contract. The invariant of its loop: what is put and what is still to put are the word. The measure is
 -- what is left of it. Assumes nothing.
 use Prim.Native.Nat.{_-_}
 use native.Mathlib.Omega.{arith}
 use borrow.Author.Needs.{needs}
 use lib.ListN.{length}
-use Rattle.lines.proofs.PutLaws.{Putting, putting-start, putting-step, putting-done}
-use Rattle.lines.proofs.put.put_word.Statement.{statement}
-use Rattle.lines.proofs.put.put_word.Tie as tie
+use Rattle.buffers.proofs.PutLaws.{Putting, putting-start, putting-step, putting-done}
+use Rattle.buffers.proofs.put.put_word.Statement.{statement}
+use Rattle.buffers.proofs.put.put_word.Tie as tie
 
 abbrev Inv-loop : tie.InvT-loop
 Inv-loop out₀ at word i₀ out i = Putting word at out₀ i out

@@ -1,11 +1,11 @@
 // Bytes, words and numbers put into a buffer at a cursor: each function answers the cursor behind what it put.
 ghost use mathlib.Core.List.{[], _∷_, _++_};
 ghost use Rattle.rules.specs.Plain.{decimal};
-ghost use Rattle.lines.specs.Put.{Put, Room};
+ghost use Rattle.buffers.specs.Put.{Put, Room};
 
 // One byte.
 // Rules out: the byte one further on; a cursor that stays.
-// Required of: put_decimal and the lines of line.rt, whose room is the whole line's.
+// Required of: put_decimal, and the lines of lines::line, whose room is the whole line's.
 pub fn put_byte(out: &mut [u8], at: usize, byte: u8) -> usize
     requires { ⌜ Room at (byte ∷ []) (now out) ⌝ }
     ensures { λ r. ⌜ Put at (byte ∷ []) (now (out .entry)) r (now (out .exit)) ⌝ }
@@ -16,7 +16,7 @@ pub fn put_byte(out: &mut [u8], at: usize, byte: u8) -> usize
 
 // The bytes of a word.
 // Rules out: the last byte left out; a byte behind the word.
-// Required of: put_field and line::put_status, whose room is the whole line's.
+// Required of: put_field and lines::line::put_status, whose room is the whole line's.
 pub fn put_word(out: &mut [u8], at: usize, word: &[u8]) -> usize
     requires { ⌜ Room at (now word) (now out) ⌝ }
     ensures { λ r. ⌜ Put at (now (word .entry)) (now (out .entry)) r (now (out .exit)) ⌝ }

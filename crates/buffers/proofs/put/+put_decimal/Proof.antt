@@ -6,16 +6,16 @@ use native.Mathlib.Omega.{arith}
 use borrow.Author.Needs.{needs}
 use Rattle.rules.specs.Plain.{decimal, digit}
 use Rattle.rules.proofs.DecimalLaws.{decimal-small, decimal-more}
-use Rattle.lines.proofs.PutLaws.{room-first, room-then, room-same, put-then, put-same}
+use Rattle.buffers.proofs.PutLaws.{room-first, room-then, room-same, put-then, put-same}
 use Prim.Native.Nat.{ℕ, _<_, _/_, _%_}
 use borrow.Fn.Kinds.{In}
 use borrow.Fn.PlainCycle.{Measures, is, falls, and}
-use Rattle.lines.proofs.put.put_decimal.Reads as put-decimal
-use Rattle.lines.proofs.put.put_decimal.Kinds as put-decimal-kinds
-use Rattle.lines.proofs.put.+put_decimal.Lts-put_decimal as put-decimal-lts
-use Rattle.lines.proofs.put.put_byte.Reads as put-byte-reads
-use Rattle.lines.proofs.put.+put_decimal.{statement}
-use Rattle.lines.proofs.put.+put_decimal.Tie.{close}
+use Rattle.buffers.proofs.put.put_decimal.Reads as put-decimal
+use Rattle.buffers.proofs.put.put_decimal.Kinds as put-decimal-kinds
+use Rattle.buffers.proofs.put.+put_decimal.Lts-put_decimal as put-decimal-lts
+use Rattle.buffers.proofs.put.put_byte.Reads as put-byte-reads
+use Rattle.buffers.proofs.put.+put_decimal.{statement}
+use Rattle.buffers.proofs.put.+put_decimal.Tie.{close}
 
 abbrev μ-put-decimal : Measures 1 put-decimal-kinds.ps ℕ
 μ-put-decimal κs a = a .1 .1 .0

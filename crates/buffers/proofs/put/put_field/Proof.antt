@@ -1,9 +1,9 @@
--- `put::put_field` meets its contract: the number stands behind the word. Assumes nothing.
+-- `buffers::put::put_field` meets its contract: the number stands behind the word. Assumes nothing.
 use borrow.Author.Needs.{needs}
 use Rattle.rules.specs.Plain.{decimal}
-use Rattle.lines.proofs.PutLaws.{room-first, room-then, put-then}
-use Rattle.lines.proofs.put.put_field.Statement.{statement}
-use Rattle.lines.proofs.put.put_field.Tie as tie
+use Rattle.buffers.proofs.PutLaws.{room-first, room-then, put-then}
+use Rattle.buffers.proofs.put.put_field.Statement.{statement}
+use Rattle.buffers.proofs.put.put_field.Tie as tie
 
 put-word-requires : tie.Need-put-word-requires
 put-word-requires c κs =

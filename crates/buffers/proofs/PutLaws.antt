@@ -17,7 +17,7 @@ use native.Mathlib.Omega.{arith}
 use native.Mathlib.Numerals.{add-one}
 use lib.ListN.{length, getD, set, drop, length-append, length-set, drop-of-length-le}
 use lib.Seq.{drop-cons, set-append-seam}
-use Rattle.lines.specs.Put.{putAt, Room, Put}
+use Rattle.buffers.specs.Put.{putAt, Room, Put}
 
 pub length-putAt : (out : List ℕ) (at : ℕ) (bs : List ℕ) → length (putAt out at bs) ≡ length out
 length-putAt out at [] = refl
