@@ -10,7 +10,7 @@
 use mathlib.Core.Path.{_≡_, refl, sym, _∙_, ap}
 use mathlib.Core.Logic.{_≢_, _⊎_, inl, inr}
 use mathlib.Core.List.{List, [], _++_, append-nil}
-use Prim.Native.Nat.{ℕ, suc, _+_, _-_, _*_, _≤_}
+use Prim.Native.Nat.{ℕ, _+_, _-_, _*_, _≤_}
 use native.Mathlib.Omega.{arith}
 use lib.IntN.{ℤ}
 use lib.ListN.{length, take, drop, replicate, length-replicate, drop-of-length-le}
@@ -20,7 +20,7 @@ use Rattle.rules.specs.declared.Report.{Report}
 use Rattle.rules.specs.Numbers.{maxVars}
 use Rattle.rules.specs.Meaning.{Values, clauses}
 use Rattle.rules.specs.Search.{Call, model, no-model, stopped}
-use Rattle.rules.specs.Run.{Task, opens, blank, begun, afterModel, firstCall, onFirst, chunks, run}
+use Rattle.rules.specs.Run.{Task, opens, begun, afterModel, firstCall, onFirst, chunks, run}
 use Rattle.rules.specs.Trace.{Reached, first-model}
 use Rattle.rules.specs.Answer.{logLength}
 use Rattle.rules.proofs.LogLaws.{blank-counts}

@@ -22,11 +22,11 @@ use lib.ListN.{length, take, drop, replicate}
 use Rattle.rules.specs.declared.RunAnswer.{RunAnswer}
 use Rattle.rules.specs.declared.Report.{Report}
 use Rattle.rules.specs.Lists.{count}
-use Rattle.rules.specs.Meaning.{Clause, LitUpTo, clauses}
+use Rattle.rules.specs.Meaning.{LitUpTo, clauses}
 use Rattle.rules.specs.Models.{NoModel, Forced, Free, WitnessOf}
 use Rattle.rules.specs.Run.{Task, Row, Ended, statusAt, isForcedTo, run}
 use Rattle.rules.specs.Trace.{Ends, first-none, first-stopped, settled, next-stopped}
-use Rattle.rules.specs.Answer.{Given, given, logLength, refusalOf, taskOf, reportIf, reportOf, reportOfRun, statusAfter, logAfter, logOfRows, isFree, isForced, Runs}
+use Rattle.rules.specs.Answer.{Given, given, logLength, refusalOf, taskOf, reportIf, reportOf, reportOfRun, logOfRows, isFree, isForced, Runs}
 use Rattle.rules.specs.RunRefusals.{Accepted, RunRefuses, bad-limits, short-buffer, list-long, not-ended, zero-over, entry-over-vars}
 use Rattle.rules.specs.Log.{LogOf}
 use Rattle.rules.proofs.ListLaws.{never}

@@ -17,8 +17,7 @@ use Rattle.rules.specs.declared.RunAnswer.{RunAnswer}
 use Rattle.rules.specs.declared.Report.{Report}
 use Rattle.rules.specs.Numbers.{maxClauses}
 use Rattle.rules.specs.Meaning.{clauses}
-use Rattle.rules.specs.Run.{Task, run}
-use Rattle.rules.specs.Answer.{Given, logLength, refusalOf, taskOf, reportIf, reportOf, statusIf, statusAfter, logOfRows, logIf, logAfter, Runs}
+use Rattle.rules.specs.Answer.{Given, logLength, refusalOf, taskOf, reportIf, reportOf, statusIf, statusAfter, logIf, logAfter, Runs}
 use Rattle.rules.specs.RunRefusals.{Accepted}
 use Rattle.rules.proofs.RefusedRuns.{run-accepted}
 use Rattle.refusals.specs.declared.Refusal.the-variants.{Accepted as NotRefused, Refused}

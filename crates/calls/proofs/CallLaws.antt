@@ -17,7 +17,7 @@ use native.Mathlib.Omega.{arith}
 use lib.IntN.{ℤ}
 use lib.ListN.{length, getD, take}
 use Rattle.rules.specs.declared.Outcome.{Outcome}
-use Rattle.rules.specs.Lists.{In, count}
+use Rattle.rules.specs.Lists.{In}
 use Rattle.rules.specs.Numbers.{maxVars}
 use Rattle.rules.specs.Meaning.{Clause, Values, varOf, negated, clauses, LitUpTo}
 use Rattle.rules.specs.Search.{Call, model, no-model, stopped, outcomeOf, triesOf, callOn}

@@ -20,7 +20,6 @@ use Prim.Native.Nat.{ℕ, zero, suc, pred, _+_, _<_, _≤_}
 use native.Mathlib.Omega.{arith}
 use native.Mathlib.Numerals.{add-one}
 use lib.Dec.{ltb}
-use lib.IntN.{ℤ}
 use lib.ListN.{set, length, take, drop}
 use lib.Seq.{take-length, drop-length, take-append-seam, set-set, set-getD}
 use types.Run.{OneOf}

@@ -7,13 +7,13 @@
 -- Assumes nothing.
 use mathlib.Core.Path.{_≡_, refl, sym, _∙_, ap}
 use mathlib.Core.Logic.{_≢_}
-use mathlib.Core.List.{List, [], _∷_, _++_, map, append-assoc, append-nil}
-use Prim.Native.Nat.{ℕ, zero, suc, pred, _+_, _-_, _≤_, _<_, min}
+use mathlib.Core.List.{List, [], _∷_, _++_, append-nil}
+use Prim.Native.Nat.{ℕ, zero, suc, pred, _+_, _-_, _≤_, _<_}
 use native.Mathlib.Omega.{arith}
 use native.Mathlib.Numerals.{add-one}
-use lib.IntN.{ℤ, pos, negsuc}
-use lib.ListN.{length, getD, set, take, drop, length-set, length-take, length-map, length-append, drop-of-length-le}
-use lib.Seq.{drop-cons, take-suc-set, drop-set-lt, take-all, append-snoc}
+use lib.IntN.{ℤ, pos}
+use lib.ListN.{length, getD, set, take, drop, length-set, length-take, length-map, drop-of-length-le}
+use lib.Seq.{drop-cons, take-suc-set, drop-set-lt, append-snoc}
 use Rattle.rules.specs.Meaning.{varOf, negated}
 use Rattle.rules.specs.Run.{opens, literalAt, candidatesFrom, constraint}
 use Rattle.rules.proofs.StatusLaws.{length-candidates}

@@ -16,7 +16,7 @@ use native.Mathlib.Numerals.{add-one}
 use lib.Dec.{eqb}
 use lib.ListN.{length, getD, set, length-set}
 use lib.Seq.{set-getD}
-use Rattle.rules.specs.Run.{opens, isOpen, freedIf, freedFrom, differs}
+use Rattle.rules.specs.Run.{opens, freedIf, freedFrom, differs}
 use Rattle.rules.proofs.ListLaws.{getD-default}
 use Rattle.steps.specs.Filter.{DropsAt, Drops}
 

@@ -9,21 +9,19 @@
 -- Assumes nothing.
 use mathlib.Core.Path.{_≡_, refl, sym, _∙_, ap}
 use mathlib.Core.Logic.{_≢_}
-use mathlib.Core.Bool.{Bool, true, false}
-use mathlib.Core.List.{List, [], _∷_, _++_}
+use mathlib.Core.Bool.{Bool}
+use mathlib.Core.List.{List}
 use Prim.Native.Nat.{ℕ, zero, suc, pred, _+_, _≤_, _<_}
 use native.Mathlib.Omega.{arith}
 use native.Mathlib.Numerals.{add-one}
-use lib.IntN.{ℤ}
-use lib.ListN.{length, getD, set, take}
-use lib.Seq.{take-suc, take-all, set-set, set-getD}
-use Rattle.rules.specs.Lists.{In}
-use Rattle.rules.specs.Meaning.{Clause, Values, hasTrue, satisfies}
+use lib.ListN.{length, getD, set}
+use lib.Seq.{set-set, set-getD}
+use Rattle.rules.specs.Meaning.{Clause, Values, satisfies}
 use Rattle.rules.specs.Run.{otherByte, flipped, canFlip}
 use Rattle.steps.specs.Filter.{DropsAt}
 use Rattle.steps.specs.Flip.{CanFlip, FlipsAt, Flips}
 use Rattle.steps.proofs.FilterLaws.{drops-closed, Filtering, filtering-start, filtering-step, filtering-done}
-use Rattle.rules.proofs.ListLaws.{never, not-true, in-getD, getD-default, all-sound, all-append-of}
+use Rattle.rules.proofs.ListLaws.{getD-default}
 
 -- ---- a flip
 

@@ -1,6 +1,5 @@
 -- `run` meets its contract: what is refused writes nothing; what is accepted writes the fronts of both buffers. Assumes nothing.
 use mathlib.Core.Path.{_≡_, sym, _∙_}
-use native.Mathlib.Omega.{arith}
 use borrow.Author.Needs.{needs}
 use Rattle.rules.specs.Answer.{Given, given, refusalOf}
 use Rattle.rules.specs.RunRefusals.{Accepted}

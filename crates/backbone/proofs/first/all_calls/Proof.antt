@@ -1,5 +1,5 @@
 -- `first::all_calls` meets its contract: the run, by what its first call ended with. Assumes nothing.
-use mathlib.Core.Path.{_≡_, refl, sym, _∙_, ap}
+use mathlib.Core.Path.{refl, sym, _∙_, ap}
 use borrow.Author.Needs.{needs}
 use lib.ListN.{length}
 use Rattle.rules.specs.Search.{Call}

@@ -6,7 +6,7 @@ use lib.ListN.{length}
 use Rattle.rules.specs.Meaning.{Values}
 use Rattle.rules.specs.Run.{Task, begun, afterModel}
 use Rattle.calls.specs.After.{Shows}
-use Rattle.calls.specs.Next.{At, task}
+use Rattle.calls.specs.Next.{task}
 use Rattle.calls.proofs.AfterLaws.{shows-model}
 use Rattle.backbone.proofs.FirstLaws.{copied-whole, shows-begun, room-begun, ready-begun, first-at, done-from-model}
 use Rattle.backbone.proofs.first.settle.Statement.{statement}

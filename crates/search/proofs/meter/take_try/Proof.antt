@@ -1,15 +1,14 @@
 -- `search::meter::take_try` meets its contract: of a try that the meter gives one more is spent behind it, and of one that it does not
 -- give nothing. Assumes nothing.
-use mathlib.Core.Path.{_≡_, refl, sym, _∙_, ap}
-use mathlib.Core.Logic.{_⊎_, inl, inr}
+use mathlib.Core.Path.{_≡_, refl, _∙_, ap}
 use mathlib.Core.Bool.{Bool, true, false}
-use Prim.Native.Nat.{ℕ, _+_, _<_, _≤_}
+use Prim.Native.Nat.{_<_, _≤_}
 use native.Mathlib.Omega.{arith}
 use lib.Dec.{ltb}
 use borrow.Author.Needs.{needs}
 use Rattle.search.specs.declared.meter.Meter.{Meter}
 use Rattle.search.specs.declared.meter.Taken.the-variants.{Try, Spent}
-use Rattle.search.specs.Meters.{takenIf, takenOf, meterAfter, afterTry}
+use Rattle.search.specs.Meters.{takenIf, meterAfter}
 use Rattle.search.proofs.meter.take_try.Statement.{statement}
 use Rattle.search.proofs.meter.take_try.Tie as tie
 

@@ -1,7 +1,5 @@
 -- `chunk::force_if` meets its contract: by the law for each of its three ways. Assumes nothing.
-use mathlib.Core.Path.{_≡_, sym, _∙_, ap}
 use borrow.Author.Needs.{needs}
-use Rattle.steps.specs.Chunk.{ForcesAt}
 use Rattle.steps.proofs.ChunkLaws.{forces-open, forces-none, forces-closed}
 use Rattle.steps.proofs.chunk.force_if.Statement.{statement}
 use Rattle.steps.proofs.chunk.force_if.Tie as tie

@@ -1,8 +1,6 @@
 -- `compare::compare` meets its contract. The invariant of its loop: what is left is to free behind i, and what was dropped is counted.
 -- The measure is what is left of the length. Assumes nothing.
-use mathlib.Core.Path.{_≡_, refl, sym, _∙_, ap}
-use mathlib.Core.Bool.{not}
-use Prim.Native.Nat.{ℕ, _+_, _-_}
+use Prim.Native.Nat.{_-_}
 use native.Mathlib.Omega.{arith}
 use borrow.Author.Needs.{needs}
 use lib.ListN.{length}

@@ -9,7 +9,7 @@ use Rattle.rules.specs.Meaning.{varOf, negated}
 use Rattle.rules.specs.Run.{literalAt}
 use Rattle.formula.proofs.SignedLaws.{toZ-ofZ-at, fits-of-var}
 use Rattle.steps.proofs.ConstraintLaws.{varOf-false}
-use Rattle.steps.specs.Constraint.{PutsAt, candidate, full, settled}
+use Rattle.steps.specs.Constraint.{candidate, full, settled}
 use Rattle.steps.proofs.constraint.put_if.Statement.{statement}
 use Rattle.steps.proofs.constraint.put_if.Tie as tie
 
