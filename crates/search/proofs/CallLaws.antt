@@ -37,10 +37,10 @@ use Rattle.rules.proofs.CallLaws.{Lowest, lowestUnset-sound, callOn-next}
 use Rattle.formula.specs.Literals.{byteOf}
 use Rattle.search.specs.declared.values.Choice.the-variants.{AllSet, Unset}
 use Rattle.search.specs.declared.meter.Meter.{Meter}
-use Rattle.search.specs.declared.meter.Taken.the-variants.{Try, Spent}
+use Rattle.search.specs.declared.meter.Asked.the-variants.{Given, Spent}
 use Rattle.search.specs.declared.call.CallEnd.{CallEnd}
 use Rattle.search.specs.Choices.{VarUpTo, choiceOf}
-use Rattle.search.specs.Meters.{takenIf, takenOf}
+use Rattle.search.specs.Meters.{askedIf, askedOf}
 use Rattle.search.specs.Calls.{valuesAfter, CallEnds, unlessModel}
 
 -- ---- a saved copy
@@ -122,7 +122,8 @@ undone {c} {vs} {us} w h = go c (λ q. h (w .outcome-is ∙ q)) (w .values-are)
 pub none-not-model : {o : Outcome} → o ≡ NoModel → o ≢ Model
 none-not-model e q = let z : _≡_ {A = ℕ} 0 1 = cc in omega arith
 
-pub ends-taken-back : {c : Call} {ws : Values} {b : ℕ} {r : CallEnd} {us : Values} (vs after : Values) → CallEnds c ws b r us → after ≡ unlessModel (r .outcome) us vs → CallEnds c vs b r after
+pub ends-taken-back : {c : Call} {ws : Values} {b : ℕ} {r : CallEnd} {us : Values} (vs after : Values) → CallEnds c ws b r us
+    → after ≡ unlessModel (r .outcome) us vs → CallEnds c vs b r after
 ends-taken-back {c} {ws} {us} vs after w a =
     record {
       outcome-is = w .outcome-is;
@@ -173,7 +174,8 @@ module _ (m : Meter) (F : List Clause) (vs : Values) where
   pub ends-model : (ws : Values) → closing F vs ≡ closed ws → lowestUnset ws ≡ none → CallEnds call vs (m .budget) (ended Model m) ws
   ends-model ws e l = rw (by-choice ws e l) (record { outcome-is = refl; spent-is = refl; budget-is = refl; values-are = refl })
 
-  module _ (ws : Values) (i : ℕ) (e : closing F vs ≡ closed ws) (l : lowestUnset ws ≡ some i) (first : CallEnd) (us : Values) (w : CallEnds (tried ws i 1 (m .spent)) ws (m .budget) first us) where
+  module _ (ws : Values) (i : ℕ) (e : closing F vs ≡ closed ws) (l : lowestUnset ws ≡ some i) (first : CallEnd) (us : Values)
+      (w : CallEnds (tried ws i 1 (m .spent)) ws (m .budget) first us) where
     -- the first try found something, or was stopped
     call-first : first .outcome ≢ NoModel → call ≡ tried ws i 1 (m .spent)
     call-first h = by-choice ws e l ∙ go (tried ws i 1 (m .spent)) (λ q. h (w .outcome-is ∙ q))
@@ -214,19 +216,20 @@ module _ (m : Meter) (F : List Clause) (vs : Values) (i x : ℕ) where
   abbrev trying : Call
   trying = try (m .budget) (callOn (m .budget) F) vs i x (m .spent)
 
-  pub ends-stopped : takenOf m ≡ Spent → CallEnds trying vs (m .budget) (ended Stopped m) vs
+  pub ends-stopped : askedOf m ≡ Spent → CallEnds trying vs (m .budget) (ended Stopped m) vs
   ends-stopped e = go (ltb (m .spent) (m .budget)) e
     where
-      go : (b : Bool) → takenIf b m ≡ Spent → CallEnds (ifLeft b (callOn (m .budget) F) (set vs i x) (m .spent)) vs (m .budget) (ended Stopped m) vs
+      go : (b : Bool) → askedIf b m ≡ Spent → CallEnds (ifLeft b (callOn (m .budget) F) (set vs i x) (m .spent)) vs (m .budget) (ended Stopped m) vs
       go true e = let z : _≡_ {A = ℕ} 0 1 = cc in absurd (omega arith)
       go false e = record { outcome-is = refl; spent-is = refl; budget-is = refl; values-are = refl }
 
-  module _ (left : Meter) (e : takenOf m ≡ Try left) (r : CallEnd) (us : Values) (w : CallEnds (callOn (left .budget) F (set vs i x) (left .spent)) (set vs i x) (left .budget) r us) where
+  module _ (left : Meter) (e : askedOf m ≡ Given left) (r : CallEnd) (us : Values)
+      (w : CallEnds (callOn (left .budget) F (set vs i x) (left .spent)) (set vs i x) (left .budget) r us) where
     -- a try was taken: the call from the values with the variable set
     paid : CallEnds trying (set vs i x) (m .budget) r us
     paid = go (ltb (m .spent) (m .budget)) e
       where
-        go : (b : Bool) → takenIf b m ≡ Try left → CallEnds (ifLeft b (callOn (m .budget) F) (set vs i x) (m .spent)) (set vs i x) (m .budget) r us
+        go : (b : Bool) → askedIf b m ≡ Given left → CallEnds (ifLeft b (callOn (m .budget) F) (set vs i x) (m .spent)) (set vs i x) (m .budget) r us
         go true e =
             let p : m .budget ≡ left .budget = cc in
             let q : m .spent + 1 ≡ left .spent = cc in

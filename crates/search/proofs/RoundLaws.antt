@@ -37,7 +37,8 @@ pub record Rounding (F : List Clause) (from : Values) (n : ℕ) (vs : Values) (k
 pub rounding-start : (F : List Clause) (from : Values) → Rounding F from 0 from 0
 rounding-start F from = record { passed = omega arith; few = omega arith; len = refl; same = refl }
 
-module _ (F : List Clause) (from : Values) (n : ℕ) (vs : Values) (k : ℕ) (cl : Clause) (h : n < length F) (here : getD F n [] ≡ cl) (w : Rounding F from n vs k) where
+module _ (F : List Clause) (from : Values) (n : ℕ) (vs : Values) (k : ℕ) (cl : Clause) (h : n < length F) (here : getD F n [] ≡ cl)
+    (w : Rounding F from n vs k) where
   visited : {s : ClauseState} → stateOf vs cl ≡ s → round (drop (suc n) F) (met s vs k) ≡ round F (under-way from 0)
   visited e =
       let d : drop n F ≡ cl ∷ drop (suc n) F = drop-cons F n [] h ∙ ap (λ (c : Clause). c ∷ drop (suc n) F) here in

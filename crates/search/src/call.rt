@@ -3,8 +3,8 @@
 use crate::close::Closing;
 use crate::close::close;
 use crate::meter::Meter;
-use crate::meter::Taken;
-use crate::meter::take_try;
+use crate::meter::Asked;
+use crate::meter::ask_try;
 use crate::values::Choice;
 use crate::values::lowest_unset;
 use crate::values::set_value;
@@ -98,7 +98,7 @@ pub fn try_value<'a>(
     requires { ⌜ TryOver (now values) (now entries) (now starts) (now constraint) total (v .0) ⌝ }
     ensures { λ r. ⌜ Tries (callClauses (now (entries .entry)) (now (constraint .entry)) total) (now (values .entry)) meter (v .0) value r (now (values .exit)) ⌝ }
 {
-    let Taken::Try(left) = take_try(meter) else {
+    let Asked::Given(left) = ask_try(meter) else {
         return CallEnd {
             outcome: Outcome::Stopped,
             meter: meter,

@@ -34,7 +34,9 @@ same-length c =
 
 -- what the round ends with, read as the definition's, at the values that it left
 round-is : (c : tie.After-round Inv-loop μ-loop) {r : RoundEnd} → c .round .result ≡ r
-    → round (callClauses (c .before .before .before .before .before .args .entries .now) (c .before .before .before .before .before .args .constraint .now) (c .before .before .before .before .before .args .total)) (under-way (c .before .before .loop .values) 0) ≡ roundOf r (c .round .last .1 .1 .1 .1 .0)
+    → round (callClauses (c .before .before .before .before .before .args .entries .now)
+        (c .before .before .before .before .before .args .constraint .now) (c .before .before .before .before .before .args .total))
+        (under-way (c .before .before .loop .values) 0) ≡ roundOf r (c .round .last .1 .1 .1 .1 .0)
 round-is c e = c .round .ensures ∙ ap (λ (r : RoundEnd). roundOf r (c .round .last .1 .1 .1 .1 .0)) e
 
 returns : tie.Need-returns Inv-loop μ-loop
