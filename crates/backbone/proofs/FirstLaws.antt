@@ -36,7 +36,7 @@ use Rattle.calls.specs.declared.next.Limits.{Limits}
 use Rattle.calls.specs.After.{Shows, EndsAt, RowRoom, RowLeft, TallyReady}
 use Rattle.calls.specs.Next.{At, task}
 use Rattle.calls.proofs.AfterLaws.{ends-row}
-use Rattle.calls.proofs.CallLaws.{ends-otherwise}
+use Rattle.search.proofs.EndLaws.{was-otherwise}
 use Rattle.backbone.specs.First.{firstOn, Cleared, started, RunDone}
 
 -- ---- the first model is kept
@@ -117,7 +117,7 @@ pub done-by-row : (k : Task) {vs after first : Values} {e : CallEnd} {status log
     → CallEnds (firstCall k) vs budget e after → e .outcome ≢ Outcome.Model
     → RowLeft log t (e .outcome) (record { chunk = 0; spent = e .meter .spent }) r log′
     → RunDone k r status log′ × (first ≡ valuesAfter (firstCall k) first)
-done-by-row k {first = first} {e} {status} {log} {log′} {r} vars {t = t} w z v n c ne x = go (ends-otherwise c ne)
+done-by-row k {first = first} {e} {status} {log} {log′} {r} vars {t = t} w z v n c ne x = go (was-otherwise c ne)
   where
     room : 6 * (t .calls + 1) ≤ length log
     room = room-begun w vars z

@@ -19,6 +19,7 @@ use Rattle.rules.specs.Numbers.{maxClauses}
 use Rattle.rules.specs.Meaning.{clauses}
 use Rattle.rules.specs.Answer.{Given, logLength, refusalOf, taskOf, reportIf, reportOf, statusIf, statusAfter, logIf, logAfter, Runs}
 use Rattle.rules.specs.RunRefusals.{Accepted}
+use Rattle.rules.proofs.ListLaws.{apart}
 use Rattle.rules.proofs.RefusedRuns.{run-accepted}
 use Rattle.refusals.specs.declared.Refusal.the-variants.{Accepted as NotRefused, Refused}
 use Rattle.refusals.specs.Refuse.{found}
@@ -30,12 +31,12 @@ use Rattle.backbone.specs.First.{RunDone}
 use Rattle.backbone.proofs.ListingLaws.{length-clauses}
 
 found-some : (o : Option RunAnswer) {a : RunAnswer} → Refused a ≡ found o → o ≡ some a
-found-some none e = absurd (let y : _≡_ {A = ℕ} 0 1 = cc in omega arith)
+found-some none e = apart cc
 found-some (some b) e = cc
 
 found-none : (o : Option RunAnswer) → NotRefused ≡ found o → o ≡ none
 found-none none e = refl
-found-none (some b) e = absurd (let y : _≡_ {A = ℕ} 0 1 = cc in omega arith)
+found-none (some b) e = apart cc
 
 -- the limits that a run is given
 abbrev pub limitsOf : Given → Limits

@@ -13,6 +13,7 @@ use Rattle.rules.specs.declared.RunAnswer.{RunAnswer}
 use Rattle.rules.specs.declared.Report.{Report}
 use Rattle.rules.specs.Meaning.{Values}
 use Rattle.rules.specs.Run.{Task, Progress, opens, Ended, endedBy, chunks, onOpen}
+use Rattle.rules.proofs.ListLaws.{apart}
 use Rattle.rules.proofs.RunNext.{chunks-next}
 use Rattle.calls.specs.declared.after.Tally.{Tally}
 use Rattle.calls.specs.declared.next.Next.{Next}
@@ -47,11 +48,11 @@ further : {k : Task} {size : ℕ} {p : Progress} {first : List ℕ} {r : Next} {
     → NextTo k size p first r status log → r ≡ GoesOn t → Further k size p first t status log
 further {k} {size} {p} {first} {r} {t} {status} {log} (goes-on {t = u} w o e) q =
     let same : u ≡ t = cc in rw (← same) (record { there = w; fewer = o; same = e (λ n q. chunks k n q) })
-further (ends e x f) r = absurd (let y : _≡_ {A = ℕ} 0 1 = cc in omega arith)
+further (ends e x f) r = apart cc
 
 ended-there : {k : Task} {size : ℕ} {p : Progress} {first : List ℕ} {r : Next} {u : Report} {status log : List ℕ}
     → NextTo k size p first r status log → r ≡ Ends u → EndsAt (k .vars) (onward k size p) u status log
-ended-there (goes-on w o e) q = absurd (let y : _≡_ {A = ℕ} 0 1 = cc in omega arith)
+ended-there (goes-on w o e) q = apart cc
 ended-there {k} {size} {p} {first} {r} {u} {status} {log} (ends {r = a} z x e) q =
     let same : a ≡ u = cc in rw (e (λ n q. chunks k n q)) (rw same at x)
 

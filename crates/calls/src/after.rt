@@ -44,7 +44,8 @@ pub fn after_model(
     made: Made,
 ) -> Tally
     requires { ⌜ Formula (length (now model)) (now entries) (now starts) × TallyReady (now first) (now status) (now log) t made × (length (now model) ≡ length (now status)) ⌝ }
-    ensures { λ r. ⌜ ModelLeft (clauses (now (entries .entry))) (now (first .entry)) (now (model .entry)) (now (status .entry)) (now (log .entry)) t made r (now (model .exit)) (now (status .exit)) (now (log .exit)) ⌝ }
+    ensures { λ r. ⌜ ModelLeft (clauses (now (entries .entry))) (now (first .entry)) (now (model .entry)) (now (status .entry))
+        (now (log .entry)) t made r (now (model .exit)) (now (status .exit)) (now (log .exit)) ⌝ }
 {
     let by_compare = compare(first, model, status);
     let by_flip = flip(entries, starts, model, status);

@@ -2,8 +2,8 @@
 // variables falls. The values are lent: a call leaves its model there, or else what it found when it came.
 use crate::close::Closing;
 use crate::close::close;
-use crate::meter::Meter;
 use crate::meter::Asked;
+use crate::meter::Meter;
 use crate::meter::ask_try;
 use crate::values::Choice;
 use crate::values::lowest_unset;
@@ -15,7 +15,6 @@ use rules::Var;
 ghost use mathlib.Core.Path.{_≡_};
 ghost use Prim.Native.Nat.{_≤_};
 ghost use lib.ListN.{length, take};
-ghost use Rattle.formula.specs.Starts.{callClauses};
 ghost use Rattle.search.specs.Closings.{CallOver};
 ghost use Rattle.search.specs.Calls.{TryOver, Calls, Tries, unlessModel};
 
@@ -50,7 +49,7 @@ pub fn go_on<'a>(
     meter: Meter,
 ) -> CallEnd
     requires { ⌜ CallOver (length (now values)) (now entries) (now starts) (now constraint) total ⌝ }
-    ensures { λ r. ⌜ Calls (callClauses (now (entries .entry)) (now (constraint .entry)) total) (now (values .entry)) meter r (now (values .exit)) ⌝ }
+    ensures { λ r. ⌜ Calls (now (entries .entry)) (now (constraint .entry)) total (now (values .entry)) meter r (now (values .exit)) ⌝ }
 {
     // The one copy of a level, for taking back: 256 bytes for up to 256 variables.
     let n = values.len();
@@ -96,7 +95,7 @@ pub fn try_value<'a>(
     value: bool,
 ) -> CallEnd
     requires { ⌜ TryOver (now values) (now entries) (now starts) (now constraint) total (v .0) ⌝ }
-    ensures { λ r. ⌜ Tries (callClauses (now (entries .entry)) (now (constraint .entry)) total) (now (values .entry)) meter (v .0) value r (now (values .exit)) ⌝ }
+    ensures { λ r. ⌜ Tries (now (entries .entry)) (now (constraint .entry)) total (now (values .entry)) meter (v .0) value r (now (values .exit)) ⌝ }
 {
     let Asked::Given(left) = ask_try(meter) else {
         return CallEnd {

@@ -76,8 +76,13 @@ pub putting-step : {first status : List ℕ} {chunk k i r : ℕ} {before now aft
     → Putting first status chunk before k i now → i < length status → PutsAt i first status chunk k now r after
     → Putting first status chunk before r (i + 1) after
 putting-step {first} {status} {chunk} {k} {i} {r} {before} {now} {after} e c w h (candidate z l) =
-    record { within = omega arith; room = omega arith; len = length-set now k x ∙ w .len; todo = rw (add-one k, add-one i) (step ∙ w .todo);
-        rest = drop-set-lt chunk now k x l ∙ w .rest }
+    record {
+      within = omega arith;
+      room = omega arith;
+      len = length-set now k x ∙ w .len;
+      todo = rw (add-one k, add-one i) (step ∙ w .todo);
+      rest = drop-set-lt chunk now k x l ∙ w .rest;
+    }
   where
     l₀ : ℤ
     l₀ = literalAt i (getD first i 0)
@@ -88,7 +93,7 @@ putting-step {first} {status} {chunk} {k} {i} {r} {before} {now} {after} e c w h
     left : constraint (take (chunk - k) (from i first status)) ≡ x ∷ constraint (take (chunk - suc k) (from (suc i) first status))
     left =
         ap constraint (ap (take (chunk - k)) (from-open i first status (omega arith) h z)
-            ∙ ap (λ (n : ℕ). take n (l₀ ∷ from (suc i) first status)) (more chunk k l))
+        ∙ ap (λ (n : ℕ). take n (l₀ ∷ from (suc i) first status)) (more chunk k l))
       where
         more : (chunk k : ℕ) → k < chunk → chunk - k ≡ suc (chunk - suc k)
         more chunk k l = omega arith
@@ -127,7 +132,7 @@ putting-done {first} {status} {chunk} {k} {i} {before} {now} e o c w h =
     put : take k now ≡ constraint (take chunk (candidatesFrom 0 first status))
     put =
         sym (append-nil (take k now)) ∙ ap (λ (xs : List ℤ). take k now ++ constraint xs)
-            (sym (take-nil′ (chunk - k)) ∙ ap (take (chunk - k)) (sym no-more)) ∙ w .todo
+        (sym (take-nil′ (chunk - k)) ∙ ap (take (chunk - k)) (sym no-more)) ∙ w .todo
       where
         take-nil′ : (n : ℕ) → _≡_ {A = List ℤ} (take n []) []
         take-nil′ zero = refl
@@ -135,5 +140,12 @@ putting-done {first} {status} {chunk} {k} {i} {before} {now} e o c w h =
 
     full-up : chunk ≡ k
     full-up =
-        omega (arith, w .room, ap length put, length-take k now, length-map (take chunk (candidatesFrom 0 first status)) negated,
-            length-take chunk (candidatesFrom 0 first status), length-candidates 0 first status e)
+        omega (
+          arith,
+          w .room,
+          ap length put,
+          length-take k now,
+          length-map (take chunk (candidatesFrom 0 first status)) negated,
+          length-take chunk (candidatesFrom 0 first status),
+          length-candidates 0 first status e,
+        )

@@ -7,7 +7,7 @@ use Rattle.rules.specs.Run.{Task, blank, firstCall}
 use Rattle.search.specs.Calls.{CallEnds, valuesAfter}
 use Rattle.search.proofs.CallLaws.{not-model}
 use Rattle.calls.specs.Next.{task}
-use Rattle.calls.proofs.CallLaws.{ends-model}
+use Rattle.search.proofs.EndLaws.{was-model}
 use Rattle.backbone.proofs.FirstLaws.{row-begun, first-called, done-by-row}
 use Rattle.backbone.proofs.first.all_calls.Statement.{statement}
 use Rattle.backbone.proofs.first.all_calls.Tie as tie
@@ -41,7 +41,7 @@ settle-requires c κs =
     let told = c .before .before .before .before in
     let call = called (told .before .before) in
     let p = start call .pre in
-    (p .0, call .first-call .kept .1 .1 .0 ∙ p .1, p .2, p .3, p .4, ends-model (ended call) (told .enum-told .given .1))
+    (p .0, call .first-call .kept .1 .1 .0 ∙ p .1, p .2, p .3, p .4, was-model (ended call) (told .enum-told .given .1))
 
 same-length : tie.Need-same-length
 same-length c = search needs
@@ -61,7 +61,7 @@ returns c =
     let call = called (told .before .before) in
     let s = start call in
     let found = c .before .before .before .before .before .before .before .before .settle .ensures in
-    (found .0, found .1 ∙ ap (λ (d : Call). valuesAfter d (s .args .first .now)) (sym (ends-model (ended call) (told .enum-told .given .1))))
+    (found .0, found .1 ∙ ap (λ (d : Call). valuesAfter d (s .args .first .now)) (sym (was-model (ended call) (told .enum-told .given .1))))
 
 cast-started : tie.Need-cast-started
 cast-started c = search needs

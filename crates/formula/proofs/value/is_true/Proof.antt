@@ -28,7 +28,7 @@ returns c =
     let start = index .before .before .before in
     ap (eqb _) (c .byte-of .ensures ∙ ap byteOf (c .before .sign .ensures)) ∙
     isTrue-byte (start .args .values .now) (start .args .l .0) (index .index-of .result) (index .index-of .ensures ∙ index .before .var-of .ensures)
-        (search needs)
+    (search needs)
 
 pub is-true-spec : {M : Type 1} → statement M
 is-true-spec =

@@ -19,7 +19,7 @@ returns c =
     let index = c .before in
     let start = index .before .before .before in
     isUnset-byte (start .args .values .now) (start .args .l .0) (index .index-of .result) (index .index-of .ensures ∙ index .before .var-of .ensures)
-        (search needs)
+    (search needs)
 
 pub is-unset-spec : {M : Type 1} → statement M
 is-unset-spec =

@@ -19,8 +19,34 @@ use ghost.Atoms.{Atoms, sem}
 use contract.Lifetimes.{Lfts}
 use contract.Monad.{Fun, fact}
 use contract.Running.{givenOf, tables, tablesOf}
-use types.Kit.{Given, ‵, raw, _⊛_, ⋆, some, later, _$_, _∵_, !, qed, by, move, drop, use1, use2, use3, split, join, pick, fsplit, fjoin, suffices,
-    frame, await, done}
+use types.Kit.{
+  Given,
+  ‵,
+  raw,
+  _⊛_,
+  ⋆,
+  some,
+  later,
+  _$_,
+  _∵_,
+  !,
+  qed,
+  by,
+  move,
+  drop,
+  use1,
+  use2,
+  use3,
+  split,
+  join,
+  pick,
+  fsplit,
+  fjoin,
+  suffices,
+  frame,
+  await,
+  done,
+}
 use types.Run.{look, init, forget, stop, from, load, and-then, no-more, land, returns, enter, alloc1, alloc0, params1, pass1, pass0, free1, free0}
 use sound.WpLaws.{FmC, fmOf, WpFn-mono}
 use denote.RattleType.{RattleType, owns}
@@ -65,9 +91,16 @@ abbrev B : Lfts 2 → RattleType
 B κs = T.the-row (namedLft 2 0 tt κs)
 
 abbrev stayed : Stays (top.ended .signature .params) (top.ended .kept)
-stayed = (stay-none-slice (0 ∷ []) tt (plain (λ _. i32)) yes,
-    (stay-none (λ _. usize) yes, (stay-none-slice (1 ∷ []) tt (plain (λ _. u16)) yes,
-    (stay-none-slice (0 ∷ []) tt (plain (λ _. i32)) yes, (stay-none (λ _. N.the-row) yes, tt)))))
+stayed = (
+  stay-none-slice (0 ∷ []) tt (plain (λ _. i32)) yes,
+  (
+    stay-none (λ _. usize) yes,
+    (
+      stay-none-slice (1 ∷ []) tt (plain (λ _. u16)) yes,
+      (stay-none-slice (0 ∷ []) tt (plain (λ _. i32)) yes, (stay-none (λ _. N.the-row) yes, tt)),
+    ),
+  ),
+)
 
 module _ {M : Type 1} (𝓤 : URA M) (H : Heap 𝓤) (A : Atoms 𝓤) (mem : Memory → SProp 𝓤) (run : Routine → Fun 𝓤) where
   -- the contracts that the proof cites
@@ -131,7 +164,7 @@ module _ {M : Type 1} (𝓤 : URA M) (H : Heap 𝓤) (A : Atoms 𝓤) (W : Given
 
   goes-made : vars < 2 ^ 64 → Is N.the-row n (N′.lowered n ∷ [])
       → ent 𝓤 (onEntry 𝓤 H A top.signature κs (q, (q′, tt)) (es, (vars, (s, (k, (n, tt))))) at)
-          (sep 𝓤 (Made 𝓤 H A mem run .pre to-made) (sep 𝓤 (sep 𝓤 (A .lft κ′ q′) (sem 𝓤 H A ftrue)) (sep 𝓤 (sem 𝓤 H A Others) (sem 𝓤 H A Kept))))
+      (sep 𝓤 (Made 𝓤 H A mem run .pre to-made) (sep 𝓤 (sep 𝓤 (A .lft κ′ q′) (sem 𝓤 H A ftrue)) (sep 𝓤 (sem 𝓤 H A Others) (sem 𝓤 H A Kept))))
   goes-made fits is-n =
       qed W ((‵ (flft κ q) ⊛ ‵ (flft κ′ q′) ⊛ ‵ ftrue) ∷ ‵ Kept ∷ []) ∵
       move ! (1 ∷ []) $ fsplit ! $ use1 W (‵ OwnE ⊛ ‵ OwnE) (shr-slice-copy 𝓤 H A W (named 0) κ i32 .twice es (ve ∷ [])) $ split ! $ move ! (2 ∷ []) $
@@ -171,7 +204,7 @@ module _ {M : Type 1} (𝓤 : URA M) (H : Heap 𝓤) (A : Atoms 𝓤) (W : Given
   exits t u e =
       qed W (‵ (ShrSlice (named 0) κ i32 .own t (u ∷ [])) ∷ (‵ (flft κ q) ⊛ ‵ (flft κ′ q′) ⊛ ‵ ftrue) ∷ ‵ Kept ∷ []) ∵
       suffices ! _ (ends-at 𝓤 H A top.ended stayed (top.clauses 𝓤 H A mem run) W
-          ((κs, (q, (q′, tt)), tt, (es, (vars, (s, (k, (n, tt))))), at), tt) u t (tt, (tt, (tt, (tt, (tt, tt))))) (tt, (tt, (tt, (tt, (tt, tt)))))) $ says ! e $
+      ((κs, (q, (q′, tt)), tt, (es, (vars, (s, (k, (n, tt))))), at), tt) u t (tt, (tt, (tt, (tt, (tt, tt))))) (tt, (tt, (tt, (tt, (tt, tt)))))) $ says ! e $
       move ! (1 ∷ []) $ frame ! $ move ! (1 ∷ []) $ frame ! $ done !
 
   module _ (C : Calls 𝓤 H) (Λ : Loops 𝓤 H) (fm : FmC 𝓤 H (W .laws) C) (known-made : Triple 𝓤 (C #view-of) (Made 𝓤 H A mem run))
@@ -179,7 +212,7 @@ module _ {M : Type 1} (𝓤 : URA M) (H : Heap 𝓤) (A : Atoms 𝓤) (W : Given
     walk : Is (ShrSlice (named 0) κ i32) es (ve ∷ []) → vars < 2 ^ 64 → Is (ShrSlice (named 1) κ′ u16) s (vs ∷ [])
         → Is (ShrSlice (named 0) κ i32) k (vk ∷ []) → Is N.the-row n (N′.lowered n ∷ []) → Lookup (now es) (now s) (n .0)
         → ent 𝓤 (onEntry 𝓤 H A top.signature κs (q, (q′, tt)) (es, (vars, (s, (k, (n, tt))))) at)
-            (WpFn 𝓤 H C Λ code.function (ve ∷ vint w64 vars ∷ vs ∷ vk ∷ N′.lowered n ∷ []) Post)
+        (WpFn 𝓤 H C Λ code.function (ve ∷ vint w64 vars ∷ vs ∷ vk ∷ N′.lowered n ∷ []) Post)
     walk is-e fits is-s is-k is-n ready =
         qed W (raw (onEntry 𝓤 H A top.signature κs (q, (q′, tt)) (es, (vars, (s, (k, (n, tt))))) at) ∷ []) ∵
         enter ! C Λ code.function (ve ∷ vint w64 vars ∷ vs ∷ vk ∷ N′.lowered n ∷ []) _ $
@@ -193,9 +226,9 @@ module _ {M : Type 1} (𝓤 : URA M) (H : Heap 𝓤) (A : Atoms 𝓤) (W : Given
         split ! $ move ! (1 ∷ []) $ split ! $ move ! (1 ∷ []) $ split ! $ move ! (3 ∷ 2 ∷ []) $
         -- [what `view_of` asks; the other token; the others; what is kept; room for _6; …]
         calls-at ! fm (Made 𝓤 H A mem run) known-made to-made
-            (and-then ! (load ! (from ! (stop !)) (look ! 14 refl)) (and-then ! (load ! (from ! (stop !)) (look ! 12 refl)) (no-more !))) (λ u.
+        (and-then ! (load ! (from ! (stop !)) (look ! 14 refl)) (and-then ! (load ! (from ! (stop !)) (look ! 12 refl)) (no-more !))) (λ u.
         use1 W (later (some (λ (r : View). ((‵ (flft κ q) ⊛ ‵ ftrue) ⊛ ‵ (B κs .own r (u ∷ [])))
-            ⊛ raw (ensured 𝓤 H A made-by.ended (made-by.clauses 𝓤 H A mem run) (κ, tt) (es, (vars, tt)) tt r)))) (id⊢ 𝓤 _) $ await ! tt $ pick ! (λ r.
+        ⊛ raw (ensured 𝓤 H A made-by.ended (made-by.clauses 𝓤 H A mem run) (κ, tt) (es, (vars, tt)) tt r)))) (id⊢ 𝓤 _) $ await ! tt $ pick ! (λ r.
         split ! $ move ! (1 ∷ []) $ use1 W (raw (fact 𝓤 ((r .entries ≡ es) × (r .vars ≡ vars)))) (made-said r) $
         heard ! ((r .entries ≡ es) × (r .vars ≡ vars)) (λ e. split ! $ move ! (1 ∷ []) $
         -- [what the struct owns; the token; the other token; the others; what is kept; room for _6; …]
@@ -205,11 +238,11 @@ module _ {M : Type 1} (𝓤 : URA M) (H : Heap 𝓤) (A : Atoms 𝓤) (W : Given
         use3 W (raw (Look 𝓤 H A mem run .pre (to-look r u))) (goes-look r u (subst (λ (x : RefT (List ℤ)). Lookup (now x) (now s) (n .0)) (sym (e .0)) ready)) $
         -- [what `clause_of` asks; what is kept; _6; …; _5; …; _4; …; _3; …; _2; …; _1; …; room for _0; …]
         calls-at ! fm (Look 𝓤 H A mem run) known-look (to-look r u)
-            (and-then ! (load ! (from ! (stop !)) (look ! 2 refl))
-            (and-then ! (load ! (from ! (stop !)) (look ! 8 refl))
-            (and-then ! (load ! (from ! (stop !)) (look ! 6 refl)) (and-then ! (load ! (from ! (stop !)) (look ! 4 refl)) (no-more !))))) (λ u′.
+        (and-then ! (load ! (from ! (stop !)) (look ! 2 refl))
+        (and-then ! (load ! (from ! (stop !)) (look ! 8 refl))
+        (and-then ! (load ! (from ! (stop !)) (look ! 6 refl)) (and-then ! (load ! (from ! (stop !)) (look ! 4 refl)) (no-more !))))) (λ u′.
         use1 W (later (some (λ (t : RefT (List ℤ)). ((‵ (flft κ q) ⊛ ‵ (flft κ′ q′) ⊛ ‵ ftrue) ⊛ ‵ (ShrSlice (named 0) κ i32 .own t (u′ ∷ [])))
-            ⊛ raw (ensured 𝓤 H A look-up.ended (look-up.clauses 𝓤 H A mem run) κs (r, (s, (k, (n, tt)))) tt t)))) (id⊢ 𝓤 _) $ await ! tt $ pick ! (λ t.
+        ⊛ raw (ensured 𝓤 H A look-up.ended (look-up.clauses 𝓤 H A mem run) κs (r, (s, (k, (n, tt)))) tt t)))) (id⊢ 𝓤 _) $ await ! tt $ pick ! (λ t.
         split ! $ move ! (1 ∷ []) $ use1 W (raw (fact 𝓤 (Is-found (now (r .entries)) t))) (look-said r t) $
         heard ! (Is-found (now (r .entries)) t) (λ e′. split ! $ move ! (1 ∷ []) $
         -- [the result; the tokens; what is kept; _6; …; _5; …; _4; …; _3; …; _2; …; _1; …; room for _0; …]
@@ -226,20 +259,30 @@ module _ {M : Type 1} (𝓤 : URA M) (H : Heap 𝓤) (A : Atoms 𝓤) (W : Given
       → Walks 𝓤 H A top.ended stayed (WpFn 𝓤 H C Λ code.function) (top.clauses 𝓤 H A mem run)
   in-walks C Λ fm known-made known-look = walked 𝓤 H A top.ended stayed (top.clauses 𝓤 H A mem run) (WpFn 𝓤 H C Λ code.function)
       (λ κs. (slice-vals, (uint-vals w64, (slice-vals, (slice-vals, (LL.vals N.the-type N′.the-laws, tt))))))
-      (λ κs. (shr-slice-tells (named 0) (κs .0) i32, (uint-tells w64,
-          (shr-slice-tells (named 1) (κs .1 .0) u16, (shr-slice-tells (named 0) (κs .0) i32, (LL.tells N.the-type N′.the-laws, tt))))))
+      (λ κs. (
+        shr-slice-tells (named 0) (κs .0) i32,
+        (
+          uint-tells w64,
+          (shr-slice-tells (named 1) (κs .1 .0) u16, (shr-slice-tells (named 0) (κs .0) i32, (LL.tells N.the-type N′.the-laws, tt))),
+        ),
+      ))
       (λ κs qs bounds a g are. needs 𝓤 (Lookup (now (a .0)) (now (a .1 .1 .0)) (a .1 .1 .1 .1 .0 .0)) _
       (walk 𝓤 H A W mem run (κs .0) (κs .1 .0) (qs .0) (qs .1 .0) (a .0) (a .1 .0) (a .1 .1 .0) (a .1 .1 .1 .0)
-          (a .1 .1 .1 .1 .0) C Λ fm known-made known-look (are .0) (are .1 .0 .1) (are .1 .1 .0) (are .1 .1 .1 .0) (are .1 .1 .1 .1 .0)))
+      (a .1 .1 .1 .1 .0) C Λ fm known-made known-look (are .0) (are .1 .0 .1) (are .1 .1 .0) (are .1 .1 .1 .0) (are .1 .1 .1 .1 .0)))
 
 in-meets : {M : Type 1} (𝓤 : URA M) (H : Heap 𝓤) (A : Atoms 𝓤) (W : Given 𝓤 H A) (mem : Memory → SProp 𝓤) (run : Routine → Fun 𝓤) (𝓣 : Tables 𝓤 H)
     → Triple 𝓤 (𝓣 .C #view-of) (Made 𝓤 H A mem run) → Triple 𝓤 (𝓣 .C #clause-of) (Look 𝓤 H A mem run)
     → Meets 𝓤 H A top.signature (WpFn 𝓤 H (𝓣 .C) (𝓣 .Λ) code.function) (top.spec 𝓤 H A mem run)
-in-meets 𝓤 H A W mem run 𝓣 known-made known-look = walk-meets 𝓤 H A top.ended stayed W
-    (goes-none-slice 𝓤 H A W 2 (0 ∷ []) tt (plain (λ _. i32)) yes,
-        (goes-none 𝓤 H A W 2 (λ _. usize) yes (λ κs x f. refl),
-        (goes-none-slice 𝓤 H A W 2 (1 ∷ []) tt (plain (λ _. u16)) yes,
-        (goes-none-slice 𝓤 H A W 2 (0 ∷ []) tt (plain (λ _. i32)) yes, (goes-none 𝓤 H A W 2 (λ _. N.the-row) yes (λ κs x f. refl), tt)))))
+in-meets 𝓤 H A W mem run 𝓣 known-made known-look = walk-meets 𝓤 H A top.ended stayed W (
+  goes-none-slice 𝓤 H A W 2 (0 ∷ []) tt (plain (λ _. i32)) yes,
+  (
+    goes-none 𝓤 H A W 2 (λ _. usize) yes (λ κs x f. refl),
+    (
+      goes-none-slice 𝓤 H A W 2 (1 ∷ []) tt (plain (λ _. u16)) yes,
+      (goes-none-slice 𝓤 H A W 2 (0 ∷ []) tt (plain (λ _. i32)) yes, (goes-none 𝓤 H A W 2 (λ _. N.the-row) yes (λ κs x f. refl), tt)),
+    ),
+  ),
+)
     (top.clauses 𝓤 H A mem run) (WpFn 𝓤 H (𝓣 .C) (𝓣 .Λ) code.function) (WpFn-mono 𝓤 H (W .laws) 𝓣 code.function)
     (in-walks 𝓤 H A W mem run (𝓣 .C) (𝓣 .Λ) (fmOf 𝓤 H (W .laws) 𝓣) known-made known-look)
 

@@ -71,7 +71,7 @@ module _ {M : Type 1} (𝓤 : URA M) (H : Heap 𝓤) (A : Atoms 𝓤) (W : Given
   exits fits =
       qed W ((‵ (flft κ q) ⊛ ‵ ftrue) ∷ ‵ (owns (ShrSlice (named 0) κ i32 ∷ usize ∷ []) (s, (n, tt)) at) ∷ []) ∵
       suffices ! _ (ends-at 𝓤 H A made-by.ended stayed (made-by.clauses 𝓤 H A mem run) W (((κ, tt), (q, tt), tt, (s, (n, tt)), at), tt)
-          (T′.lowered made) made (tt, (tt, tt)) (tt, (tt, tt))) $ says ! (refl, refl) $
+      (T′.lowered made) made (tt, (tt, tt)) (tt, (tt, tt))) $ says ! (refl, refl) $
       frame ! $ fsplit ! $ use1 W (‵ Own ⊛ ‵ Own) (shr-slice-copy 𝓤 H A W (named 0) κ i32 .twice s (v ∷ [])) $ split ! $ move ! (0 ∷ 2 ∷ []) $
       fjoin ! $ frame ! $
       -- [what the slice owns]: what the fields own together, of it and of the number's facts, is what the struct owns
@@ -88,7 +88,7 @@ module _ {M : Type 1} (𝓤 : URA M) (H : Heap 𝓤) (A : Atoms 𝓤) (W : Given
         pass1 ! (init ! 0 refl (tt, record { fits = fits })) $ pass0 ! $
         -- [_2; …; _1; …; room for _0; …; what is had at entry]
         assigns ! (agg ! (and-then ! (load ! (from ! (stop !)) (look ! 2 refl)) (and-then ! (load ! (from ! (stop !)) (look ! 0 refl)) (no-more !))))
-            (from ! (stop !)) (init ! 4 refl (tt, (shr-slice-lawful 𝓤 H A W (named 0) κ i32 .typed s (v ∷ []) p .0 .1, (record { fits = fits }, tt)))) $
+        (from ! (stop !)) (init ! 4 refl (tt, (shr-slice-lawful 𝓤 H A W (named 0) κ i32 .typed s (v ∷ []) p .0 .1, (record { fits = fits }, tt)))) $
         returns ! (look ! 4 refl) $ forget ! 0 refl $ forget ! 2 refl $ forget ! 4 refl $ move ! (4 ∷ 5 ∷ []) $ free1 ! $ move ! (2 ∷ 3 ∷ []) $
         free1 ! $ free1 ! $ free0 ! $ by ! (exits fits))))
 

@@ -10,8 +10,16 @@ use borrow.Author.Needs.{needs}
 use Rattle.formula.specs.Clauses.{ClauseUpTo}
 use Rattle.formula.specs.Starts.{clauseAt, callClauses}
 use Rattle.formula.proofs.ClauseLaws.{length-callClauses, getD-callClauses, clauseAt-up-to}
-use Rattle.search.proofs.RoundLaws.{Rounding, rounding-start, rounding-false, rounding-unit, rounding-true, rounding-undecided, rounding-done,
-    unit-up-to}
+use Rattle.search.proofs.RoundLaws.{
+  Rounding,
+  rounding-start,
+  rounding-false,
+  rounding-unit,
+  rounding-true,
+  rounding-undecided,
+  rounding-done,
+  unit-up-to,
+}
 use Rattle.search.proofs.close.round.Statement.{statement}
 use Rattle.search.proofs.close.round.Tie as tie
 
@@ -59,7 +67,7 @@ up-to c =
     let n = c .before .before .loop .n in
     rw (c .before .before .loop .inv .len, c .clause-in .ensures, add-one n)
     (clauseAt-up-to (length (start .args .values .now)) (start .args .entries .now) (start .args .constraint .now) n (start .pre .formula .up-to)
-        (start .pre .constraint-up-to)
+    (start .pre .constraint-up-to)
     (omega (arith, c .before .loop-test .taken, start .pre .total-most)))
 
 state-of-requires : tie.Need-state-of-requires Inv-loop μ-loop

@@ -16,10 +16,61 @@ use prog.Wp.{Heap, Calls, Loops, WpFn, Tables}
 use ghost.Atoms.{Atoms, sem}
 use contract.Monad.{Fun, fact}
 use contract.Running.{givenOf, tables, tablesOf}
-use types.Kit.{Given, ‵, raw, _⊛_, some, later, _$_, _∵_, !, qed, by, move, keep, drop, use1, split, join, pick, fsplit, fsplit3, fjoin, fjoin3, feqI,
-    suffices, frame, await, done}
-use types.Run.{look, look-raw, store-raw, init, forget, stop, hop, from, load, unit-lit, of-opd, and-then, no-more, assigns, land, returns, enter,
-    alloc1, alloc0, params1, pass1, pass0, free1, free0}
+use types.Kit.{
+  Given,
+  ‵,
+  raw,
+  _⊛_,
+  some,
+  later,
+  _$_,
+  _∵_,
+  !,
+  qed,
+  by,
+  move,
+  keep,
+  drop,
+  use1,
+  split,
+  join,
+  pick,
+  fsplit,
+  fsplit3,
+  fjoin,
+  fjoin3,
+  feqI,
+  suffices,
+  frame,
+  await,
+  done,
+}
+use types.Run.{
+  look,
+  look-raw,
+  store-raw,
+  init,
+  forget,
+  stop,
+  hop,
+  from,
+  load,
+  unit-lit,
+  of-opd,
+  and-then,
+  no-more,
+  assigns,
+  land,
+  returns,
+  enter,
+  alloc1,
+  alloc0,
+  params1,
+  pass1,
+  pass0,
+  free1,
+  free0,
+}
 use types.SemTy.{Body}
 use sound.WpLaws.{FmC, fmOf, WpFn-mono}
 use denote.RattleType.{RattleType, owns}
@@ -90,7 +141,7 @@ module _ {M : Type 1} (𝓤 : URA M) (H : Heap 𝓤) (A : Atoms 𝓤) (W : Given
   exits r e =
       qed W (‵ (fobs γ (R .coded .code r)) ∷ ‵ (fbor κ (Body (mem R) b o γ)) ∷ ‵ (flft κ q) ∷ []) ∵
       suffices ! _ (ends-at 𝓤 H A charge.ended stayed (charge.clauses 𝓤 H A at-mem run) W (((κ, tt), (q, tt), tt, x, at), tt) vunit tt (r, tt)
-          (tt, tt)) $ says ! e $ nothing ! $ move ! (3 ∷ 0 ∷ []) $ join ! $
+      (tt, tt)) $ says ! e $ nothing ! $ move ! (3 ∷ 0 ∷ []) $ join ! $
       frame ! $ feqI ! (List Val) (vptr b o ∷ []) (vptr b o ∷ []) refl $ fjoin3 ! $ nothing ! $ move ! (1 ∷ 0 ∷ []) $ fjoin ! $
       feqI ! (List Val) (vunit ∷ []) (vunit ∷ []) refl $ move ! (1 ∷ 0 ∷ []) $ done !
 
@@ -103,21 +154,21 @@ module _ {M : Type 1} (𝓤 : URA M) (H : Heap 𝓤) (A : Atoms 𝓤) (W : Given
         enter ! C Λ code.function (vptr b o ∷ []) _ $
         alloc1 ! (λ l₀. alloc1 ! (λ l₁. alloc1 ! (λ l₂. alloc1 ! (λ l₃. alloc0 ! $ params1 ! $ pass1 ! (init ! 4 refl (tt, tt)) $ pass0 ! $
         move ! (8 ∷ 9 ∷ 10 ∷ []) $ opens ! tt R {h = d} b o (λ vs. spelt ! R (Is R) (shows 𝓤 H A R) (LL.vals T.the-type T′.the-laws)
-            (LL.tells T.the-type T′.the-laws) fullShare d vs b o $
+        (LL.tells T.the-type T′.the-laws) fullShare d vs b o $
         move ! (1 ∷ []) $ peeks ! R (Is R) (shows 𝓤 H A R) d (mach d ∷ []) (λ g. move ! (1 ∷ 0 ∷ []) $
         -- [the record's cell; what it owns; the open borrow; obs; auth; _3; …; _2; …; _1; …; room for _0; …]
         assigns ! (of-opd ! (load ! (from ! (hop ! (look ! 9 refl) (stop !))) (look-raw ! 0 refl))) (from ! (stop !))
-            (init ! 5 refl (LL.lawful T.the-type T′.the-laws 𝓤 H A W .typed d _ g .0)) $
+        (init ! 5 refl (LL.lawful T.the-type T′.the-laws 𝓤 H A W .typed d _ g .0)) $
         nothing ! $ use1 W (raw (After 𝓤 H A at-mem run .pre to)) (goes-in g) $
         calls-at ! fm (After 𝓤 H A at-mem run) known to (and-then ! (load ! (from ! (stop !)) (look ! 6 refl)) (no-more !)) (λ w.
         use1 W (later (some (λ (r : Meter). (‵ ftrue ⊛ ‵ (R .own r (w ∷ [])))
-            ⊛ raw (ensured 𝓤 H A after.ended (after.clauses 𝓤 H A at-mem run) tt (d, tt) tt r)))) (id⊢ 𝓤 _) $ await ! tt $ pick ! (λ r.
+        ⊛ raw (ensured 𝓤 H A after.ended (after.clauses 𝓤 H A at-mem run) tt (d, tt) tt r)))) (id⊢ 𝓤 _) $ await ! tt $ pick ! (λ r.
         split ! $ move ! (1 ∷ []) $ use1 W (raw (fact 𝓤 (r ≡ afterTry d))) (said r) $ heard ! (r ≡ afterTry d) (λ e. split ! $ drop ! $
         peeks ! R (Is R) (shows 𝓤 H A R) r (w ∷ []) (λ is.
         -- [what the result owns; the record's cell; what it owned; the open borrow; obs; auth; _3; …; _2; …; _1; …; room for _0; …]
         land ! (from ! (stop !)) (init ! 8 refl (LL.lawful T.the-type T′.the-laws 𝓤 H A W .typed r _ is .0)) $
         assigns ! (of-opd ! (load ! (from ! (stop !)) (look ! 8 refl))) (from ! (hop ! (look ! 10 refl) (stop !)))
-            (store-raw ! 1 refl (LL.lawful T.the-type T′.the-laws 𝓤 H A W .typed r _ is .0)) $
+        (store-raw ! 1 refl (LL.lawful T.the-type T′.the-laws 𝓤 H A W .typed r _ is .0)) $
         assigns ! (of-opd ! (unit-lit !)) (from ! (stop !)) (init ! 12 refl (tt, tt)) $
         move ! (2 ∷ []) $ drop ! $ move ! (1 ∷ 0 ∷ []) $ closes ! tt R r (w ∷ []) b o $
         returns ! (look ! 9 refl) $ forget ! 3 refl $ forget ! 5 refl $ forget ! 7 refl $ forget ! 9 refl $
@@ -130,7 +181,7 @@ module _ {M : Type 1} (𝓤 : URA M) (H : Heap 𝓤) (A : Atoms 𝓤) (W : Given
   charge-walks C Λ fm known = walked 𝓤 H A charge.ended stayed (charge.clauses 𝓤 H A at-mem run) (WpFn 𝓤 H C Λ code.function) (λ κs. (ptr-vals, tt))
       (λ κs. (mut-tells (named 0) (κs .0) R, tt))
       (λ κs qs bounds a _ _. via 𝓤 _ (fst∗ 𝓤 _ (emp 𝓤)) (walk 𝓤 H A W at-mem run (κs .0) (qs .0) (a .0 .ptr .0) (a .0 .ptr .1) (a .0 .name)
-          (a .0 .now) C Λ fm known))
+      (a .0 .now) C Λ fm known))
 
   goes : AllGo 𝓤 H A W 1 (charge.signature .params) (charge.ended .kept) stayed
   goes = (goes-ref 𝓤 H A W 1 0 tt (plain (λ _. R)), tt)

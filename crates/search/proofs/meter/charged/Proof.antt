@@ -17,10 +17,59 @@ use prog.Wp.{Heap, Calls, Loops, WpFn, Tables}
 use ghost.Atoms.{Atoms, sem}
 use contract.Monad.{Fun, fact}
 use contract.Running.{givenOf, tables, tablesOf}
-use types.Kit.{Given, ‵, raw, _⊛_, some, later, _$_, _∵_, !, qed, by, move, keep, use1, use2, use3, split, join, pick, fsplit, fjoin, fpick, fpack,
-    feqL, suffices, frame, await, done}
-use types.Run.{look, init, forget, stop, from, load, addr, of-opd, and-then, no-more, assigns, land, returns, enter, alloc1, alloc0, params1, pass1,
-    pass0, free1, free0}
+use types.Kit.{
+  Given,
+  ‵,
+  raw,
+  _⊛_,
+  some,
+  later,
+  _$_,
+  _∵_,
+  !,
+  qed,
+  by,
+  move,
+  keep,
+  use1,
+  use2,
+  use3,
+  split,
+  join,
+  pick,
+  fsplit,
+  fjoin,
+  fpick,
+  fpack,
+  feqL,
+  suffices,
+  frame,
+  await,
+  done,
+}
+use types.Run.{
+  look,
+  init,
+  forget,
+  stop,
+  from,
+  load,
+  addr,
+  of-opd,
+  and-then,
+  no-more,
+  assigns,
+  land,
+  returns,
+  enter,
+  alloc1,
+  alloc0,
+  params1,
+  pass1,
+  pass0,
+  free1,
+  free0,
+}
 use types.SemTy.{Body}
 use types.Tokens.{lft-new, lft-end}
 use sound.WpLaws.{FmC, fmOf, WpFn-mono}
@@ -91,7 +140,7 @@ module _ {M : Type 1} (𝓤 : URA M) (H : Heap 𝓤) (A : Atoms 𝓤) (W : Given
   exits g z e =
       qed W (‵ (R .own z (mach z ∷ [])) ∷ []) ∵
       suffices ! _ (ends-at 𝓤 H A charged.ended stayed (charged.clauses 𝓤 H A at-mem run) W ((tt, tt, tt, (d, tt), (mach d ∷ [], tt)), tt) (mach z) z
-          (tt, tt) (tt, tt)) $ says ! e $
+      (tt, tt) (tt, tt)) $ says ! e $
       owned ! R (Is R) ((LL.makes T.the-type T′.the-plain) 𝓤 H A) d _ g $ nothing ! $ move ! (1 ∷ 0 ∷ []) $ fjoin ! $ nothing ! $ done !
 
   abbrev x : ℕ → GName → RefT Meter
@@ -119,14 +168,14 @@ module _ {M : Type 1} (𝓤 : URA M) (H : Heap 𝓤) (A : Atoms 𝓤) (W : Given
         use1 W (‵ (cellAt fullShare (R .mir) (mach d ∷ []) l₂ 0)) (W .laws .at-raw fullShare T′.mir l₂ 0 (mach d)) $
         use2 W (‵ (mem R .lies d l₂ 0)) (lies-in 𝓤 H A W d l₂ 0) $
         use1 W (later (some (λ (γ : GName). ‵ (MutRef (named 0) (ν ∷ []) R .own (x l₂ γ) (vptr l₂ 0 ∷ []))
-            ⊛ ‵ (flent (ν ∷ []) (Body (mem R) l₂ 0 γ))))) (lends-ref 𝓤 H A W R (named 0) (ν ∷ []) d l₂ 0) $ await ! tt $ pick ! (λ γ. split ! $
+        ⊛ ‵ (flent (ν ∷ []) (Body (mem R) l₂ 0 γ))))) (lends-ref 𝓤 H A W R (named 0) (ν ∷ []) d l₂ 0) $ await ! tt $ pick ! (λ γ. split ! $
         move ! (3 ∷ 0 ∷ []) $ use2 W (raw (Charge 𝓤 H A at-mem run .pre (to ν l₂ γ))) (goes-in ν l₂ γ) $
         -- [what it asks; the lender's part; true; _4; …; _3; …; …(_2); _1; …; room for _0; …; true]
         calls-at ! fm (Charge 𝓤 H A at-mem run) known (to ν l₂ γ) (and-then ! (load ! (from ! (stop !)) (look ! 3 refl)) (no-more !)) (λ w.
         use1 W (later (some (λ (r : Unit {0}). ((‵ (flft (ν ∷ []) fullShare) ⊛ ‵ ftrue) ⊛ ‵ (unit .own r (w ∷ [])))
-            ⊛ raw (ensured 𝓤 H A charge.ended (charge.clauses 𝓤 H A at-mem run) (ν ∷ [], tt) (x l₂ γ, tt) tt r)))) (id⊢ 𝓤 _) $ await ! tt $ pick ! (λ r.
+        ⊛ raw (ensured 𝓤 H A charge.ended (charge.clauses 𝓤 H A at-mem run) (ν ∷ [], tt) (x l₂ γ, tt) tt r)))) (id⊢ 𝓤 _) $ await ! tt $ pick ! (λ r.
         split ! $ move ! (1 ∷ []) $ use1 W (some (λ (zs : Meter × Unit {0}). ‵ (lasts charge.ended (ν ∷ [], tt) (x l₂ γ, tt) zs)
-            ⊛ raw (fact 𝓤 (zs .0 ≡ afterTry d)))) (id⊢ 𝓤 _) $ pick ! (λ zs.
+        ⊛ raw (fact 𝓤 (zs .0 ≡ afterTry d)))) (id⊢ 𝓤 _) $ pick ! (λ zs.
         split ! $ move ! (1 ∷ []) $ heard ! (zs .0 ≡ afterTry d) (λ e. fsplit ! $
         -- [its last value; true; the token and the result's; the lender's part; true; _4; …]
         move ! (2 ∷ []) $ split ! $ move ! (1 ∷ []) $ feqL ! (λ p.
@@ -138,7 +187,7 @@ module _ {M : Type 1} (𝓤 : URA M) (H : Heap 𝓤) (A : Atoms 𝓤) (W : Given
         move ! (1 ∷ []) $ peeks ! R (Is R) (shows 𝓤 H A R) (zs .0) (mach (zs .0) ∷ []) (λ g′. move ! (1 ∷ 0 ∷ []) $
         -- [the record's cell; what it owns; true; true; true; _4; …; _3; …; …(_2); _1; …; room for _0; …; true]
         assigns ! (of-opd ! (load ! (from ! (stop !)) (look ! 0 refl))) (from ! (stop !))
-            (init ! 12 refl (LL.lawful T.the-type T′.the-laws 𝓤 H A W .typed (zs .0) _ g′ .0)) $
+        (init ! 12 refl (LL.lawful T.the-type T′.the-laws 𝓤 H A W .typed (zs .0) _ g′ .0)) $
         returns ! (look ! 12 refl) $ forget ! 0 refl $ forget ! 5 refl $ forget ! 7 refl $ forget ! 10 refl $ forget ! 12 refl $
         move ! (12 ∷ 13 ∷ []) $ free1 ! $ move ! (10 ∷ 11 ∷ []) $ free1 ! $ move ! (0 ∷ 9 ∷ []) $ free1 ! $ move ! (6 ∷ 7 ∷ []) $ free1 ! $
         move ! (4 ∷ 5 ∷ []) $ free1 ! $ free0 ! $
@@ -150,7 +199,7 @@ module _ {M : Type 1} (𝓤 : URA M) (H : Heap 𝓤) (A : Atoms 𝓤) (W : Given
   charged-walks C Λ fm known = walked 𝓤 H A charged.ended stayed (charged.clauses 𝓤 H A at-mem run) (WpFn 𝓤 H C Λ code.function)
       (λ κs. (LL.vals T.the-type T′.the-laws, tt)) (λ κs. (LL.tells T.the-type T′.the-laws, tt))
       (λ κs qs bounds a _ are. via 𝓤 _ (fst∗ 𝓤 _ (emp 𝓤))
-          (walk 𝓤 H A W at-mem run (a .0) C Λ fm known (are .0) (LL.lawful T.the-type T′.the-laws 𝓤 H A W .typed (a .0) _ (are .0) .0)))
+      (walk 𝓤 H A W at-mem run (a .0) C Λ fm known (are .0) (LL.lawful T.the-type T′.the-laws 𝓤 H A W .typed (a .0) _ (are .0) .0)))
 
 charged-meets : {M : Type 1} (𝓤 : URA M) (H : Heap 𝓤) (A : Atoms 𝓤) → Given 𝓤 H A
     → (at-mem : Memory → SProp 𝓤) (run : Routine → Fun 𝓤) (𝓣 : Tables 𝓤 H) → Triple 𝓤 (𝓣 .C #charge) (Charge 𝓤 H A at-mem run)

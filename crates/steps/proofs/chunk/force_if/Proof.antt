@@ -26,7 +26,7 @@ returns : tie.Need-returns
 returns c =
     let s = c .before .before .before .before .before .before .before in
     rw (c .forced-by .ensures) (forces-open (s .args .first .now) (s .args .status .now) (s .args .i) (s .args .left)
-        (c .before .before .before .if1 .taken) (c .before .before .if2 .taken))
+    (c .before .before .before .if1 .taken) (c .before .before .if2 .taken))
 
 returns-2 : tie.Need-returns-2
 returns-2 c =

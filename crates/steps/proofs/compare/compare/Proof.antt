@@ -34,7 +34,7 @@ loop-again c =
     let s = at-loop .before .before .before .before in
     filtering-step _ (at-loop .loop .inv) (c .before .before .before .before .before .before .loop-test .taken)
     (differs-read (s .args .first .now) (s .args .model .now) (at-loop .loop .i) (omega (arith, at-loop .loop .inv .len))
-        (omega (arith, at-loop .loop .inv .len)))
+    (omega (arith, at-loop .loop .inv .len)))
     (c .before .before .drop-if .ensures)
 
 add-dropped : tie.Need-add-dropped Inv-loop μ-loop

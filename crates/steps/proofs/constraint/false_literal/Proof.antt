@@ -25,7 +25,7 @@ returns-2 : tie.Need-returns-2
 returns-2 c =
     let s = c .before .before .before in
     c .negated .ensures ∙ ap negated (toZ-pos w32 {n = s .args .v .0} (omega arith))
-        ∙ false-high (s .args .v .0) (s .args .byte) (s .pre .0) (c .before .if1 .left)
+    ∙ false-high (s .args .v .0) (s .args .byte) (s .pre .0) (c .before .if1 .left)
 
 pub false-literal-spec : {M : Type 1} → statement M
 false-literal-spec = tie.close (tie.spec cast-t4 negated-requires returns returns-2)
