@@ -43,7 +43,8 @@ abbrev pub limitsOf : Given → Limits
 limitsOf g = record { budget = g .budget; chunk = g .limit }
 
 module _ (g : Given) where
-  pub runs-refused : {a : RunAnswer} → Refused a ≡ found (refusalOf g) → Runs g (record { answer = a; calls = 0; tries = 0; forced = 0; free = 0 }) (g .status) (g .log)
+  pub runs-refused : {a : RunAnswer} → Refused a ≡ found (refusalOf g)
+      → Runs g (record { answer = a; calls = 0; tries = 0; forced = 0; free = 0 }) (g .status) (g .log)
   unfolding reportOf statusAfter logAfter
   runs-refused e =
       let o = found-some (refusalOf g) e in
@@ -90,6 +91,8 @@ module _ (g : Given) where
         go w =
             record {
               result-is = w .result-is ∙ ap (λ (r : Option RunAnswer). reportIf r (taskOf g)) (sym o);
-              status-is = ap (λ (xs : List ℕ). xs ++ drop (g .vars) (g .status)) (w .status-is) ∙ ap (λ (r : Option RunAnswer). statusIf r (taskOf g) (g .status)) (sym o);
-              log-is = ap (λ (xs : List ℕ). xs ++ drop (logLength (g .vars)) (g .log)) (w .log-is) ∙ ap (λ (r : Option RunAnswer). logIf r (taskOf g) (g .log)) (sym o);
+              status-is = ap (λ (xs : List ℕ). xs ++ drop (g .vars) (g .status)) (w .status-is)
+                  ∙ ap (λ (r : Option RunAnswer). statusIf r (taskOf g) (g .status)) (sym o);
+              log-is = ap (λ (xs : List ℕ). xs ++ drop (logLength (g .vars)) (g .log)) (w .log-is)
+                  ∙ ap (λ (r : Option RunAnswer). logIf r (taskOf g) (g .log)) (sym o);
             }

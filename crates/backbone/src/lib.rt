@@ -14,7 +14,8 @@ pub fn run(
     status: &mut [u8],
     log: &mut [u32],
 ) -> rules::Report
-    ensures { λ r. ⌜ Runs (given (now (entries .entry)) vars budget «chunk_limit» (now (status .entry)) (now (log .entry))) r (now (status .exit)) (now (log .exit)) ⌝ }
+    ensures { λ r. ⌜ Runs (given (now (entries .entry)) vars budget «chunk_limit» (now (status .entry)) (now (log .entry)))
+        r (now (status .exit)) (now (log .exit)) ⌝ }
 {
     let refusal = refusals::refuse(entries, vars, chunk_limit, status, log);
     match refusal {

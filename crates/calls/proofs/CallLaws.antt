@@ -8,18 +8,16 @@
 --   tally-ready       there is room for one row more, and no count is out of range
 --
 -- Assumes nothing.
-use mathlib.Core.Path.{_≡_, refl, sym, _∙_, ap}
-use mathlib.Core.Logic.{_≢_, _⊎_, inl, inr}
+use mathlib.Core.Path.{_≡_, sym, _∙_, ap}
 use mathlib.Core.List.{List, [], _∷_, _++_}
 use Prim.Native.Nat.{ℕ, zero, suc, _+_, _≤_, _<_, min}
 use native.Mathlib.Omega.{arith}
 use lib.IntN.{ℤ}
 use lib.ListN.{length, getD, take}
-use Rattle.rules.specs.declared.Outcome.{Outcome}
 use Rattle.rules.specs.Lists.{In}
 use Rattle.rules.specs.Numbers.{maxVars}
 use Rattle.rules.specs.Meaning.{Clause, Values, varOf, negated, clauses, LitUpTo}
-use Rattle.rules.specs.Search.{Call, model, no-model, stopped, outcomeOf, triesOf, callOn}
+use Rattle.rules.specs.Search.{Call, callOn}
 use Rattle.rules.specs.Run.{Task, Progress, statusAt, opens, candidatesFrom, constraint, chunkCall, Ended, onCall, onOpen}
 use Rattle.rules.specs.Trace.{Reached, first-model, next-model, next-none}
 use Rattle.rules.specs.Answer.{isFree, isForced}
@@ -34,7 +32,7 @@ use Rattle.formula.specs.Formula.{Formula}
 use Rattle.formula.proofs.ClauseLaws.{callClauses-constraint, length-starts}
 use Rattle.search.specs.declared.call.CallEnd.{CallEnd}
 use Rattle.search.specs.Closings.{CallOver}
-use Rattle.search.specs.Calls.{CallEnds, valuesAfter}
+use Rattle.search.specs.Calls.{CallEnds}
 use Rattle.calls.specs.declared.after.Tally.{Tally}
 use Rattle.calls.specs.declared.after.Made.{Made}
 use Rattle.calls.specs.After.{TallyReady}

@@ -36,7 +36,11 @@ use Rattle.calls.proofs.CallLaws.{call-next}
 
 pub call-up : (es : List ℤ) (first : Values) (status : List ℕ) (chunk : ℕ) (meter : Meter) {vs after : Values} {budget : ℕ} {r : CallEnd}
     → CallEnds (chunkOn es first status chunk meter) vs budget r after → meter .spent ≤ r .meter .spent
-call-up es first status chunk meter w = omega (arith, w .spent-is, callOn-tries (meter .budget) (chunkClauses es first status chunk) (forcedValues status) (meter .spent) .up)
+call-up es first status chunk meter w = omega (
+  arith,
+  w .spent-is,
+  callOn-tries (meter .budget) (chunkClauses es first status chunk) (forcedValues status) (meter .spent) .up,
+)
 
 suc-pred : (m : ℕ) → 1 ≤ m → m ≡ suc (pred m)
 suc-pred zero h = absurd (omega arith)

@@ -1,6 +1,6 @@
 -- `next::run_calls` meets its contract. The invariant of its loop: the buffers keep their lengths, and the run is where it was, or
 -- further. The measure is how many candidates remain. Assumes nothing.
-use mathlib.Core.Path.{_≡_, refl, _∙_}
+use mathlib.Core.Path.{_≡_, refl, sym, _∙_}
 use borrow.Author.Needs.{needs}
 use lib.ListN.{length}
 use Rattle.calls.specs.Next.{task}
@@ -34,7 +34,16 @@ next-call-requires c κs =
     let at-loop = c .before .before .before .before .before in
     let p = start at-loop .pre in
     let l = at-loop .loop .inv in
-    rw (l .0) (p .0, l .2 ∙ p .1, p .2, l .3 (p .3) .here, c .before .before .before .if1 .taken)
+    record {
+      over =
+          record {
+            formula = rw (l .0) (p .formula);
+            values-len = l .2 ∙ p .values-len ∙ sym (l .0);
+            allowed = p .allowed;
+            here = rw (l .0) (l .3 (p .here) .here);
+          };
+      some = c .before .before .before .if1 .taken;
+    }
 
 enum-known-next : tie.Need-enum-known-next Inv-loop μ-loop
 enum-known-next c = search needs
@@ -44,7 +53,7 @@ loop-less c =
     let call = c .before .before .before .before .before .before .before .before .before in
     let at-loop = turn call in
     let p = start at-loop .pre in
-    going-less (p .2 .some) (at-loop .loop .inv .3) (rw (at-loop .loop .inv .0) at (call .next-call .ensures)) (c .before .next .given .1) (p .3)
+    going-less (p .allowed .some) (at-loop .loop .inv .3) (rw (at-loop .loop .inv .0) at (call .next-call .ensures)) (c .before .next .given .1) (p .here)
 
 loop-again : tie.Need-loop-again Inv-loop μ-loop
 loop-again c =
@@ -56,20 +65,26 @@ loop-again c =
       kept .1 .1 .1 .0 ∙ l .0,
       kept .1 .1 .1 .1 .0 ∙ l .1,
       kept .1 .1 .1 .1 .1 .0 ∙ l .2,
-      going-step (p .2 .some) (l .3) (rw (l .0) at (call .next-call .ensures)) (c .before .next .given .1),
+      going-step (p .allowed .some) (l .3) (rw (l .0) at (call .next-call .ensures)) (c .before .next .given .1),
     )
 
 enum-known-report : tie.Need-enum-known-report Inv-loop μ-loop
 enum-known-report c = search needs
 
 same-length : tie.Need-same-length Inv-loop μ-loop
-same-length c = let call = c .before .before .before .before .before .before .before .before .before in call .next-call .kept .1 .1 .1 .0 ∙ turn call .loop .inv .0
+same-length c =
+    let call = c .before .before .before .before .before .before .before .before .before in
+    call .next-call .kept .1 .1 .1 .0 ∙ turn call .loop .inv .0
 
 same-length-2 : tie.Need-same-length-2 Inv-loop μ-loop
-same-length-2 c = let call = c .before .before .before .before .before .before .before .before .before in call .next-call .kept .1 .1 .1 .1 .0 ∙ turn call .loop .inv .1
+same-length-2 c =
+    let call = c .before .before .before .before .before .before .before .before .before in
+    call .next-call .kept .1 .1 .1 .1 .0 ∙ turn call .loop .inv .1
 
 same-length-3 : tie.Need-same-length-3 Inv-loop μ-loop
-same-length-3 c = let call = c .before .before .before .before .before .before .before .before .before in call .next-call .kept .1 .1 .1 .1 .1 .0 ∙ turn call .loop .inv .2
+same-length-3 c =
+    let call = c .before .before .before .before .before .before .before .before .before in
+    call .next-call .kept .1 .1 .1 .1 .1 .0 ∙ turn call .loop .inv .2
 
 returns : tie.Need-returns Inv-loop μ-loop
 returns c =
@@ -77,7 +92,7 @@ returns c =
     let at-loop = turn call in
     let p = start at-loop .pre in
     let l = at-loop .loop .inv in
-    λ v. going-end (p .2 .some) (l .3) (rw (l .0) at (call .next-call .ensures)) (c .before .report .given .1) v
+    λ v. going-end (p .allowed .some) (l .3) (rw (l .0) at (call .next-call .ensures)) (c .before .report .given .1) v
 
 same-length-4 : tie.Need-same-length-4 Inv-loop μ-loop
 same-length-4 c = c .before .before .loop .inv .0
@@ -91,7 +106,7 @@ same-length-6 c = c .before .before .loop .inv .2
 returns-2 : tie.Need-returns-2 Inv-loop μ-loop
 returns-2 c =
     let at-loop = c .before .before in
-    λ v. going-done (start at-loop .pre .2 .some) (at-loop .loop .inv .3) (c .if1 .left) v
+    λ v. going-done (start at-loop .pre .allowed .some) (at-loop .loop .inv .3) (c .if1 .left) v
 
 pub run-calls-spec : {M : Type 1} → statement M
 run-calls-spec =
