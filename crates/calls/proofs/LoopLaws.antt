@@ -2,6 +2,7 @@
 --
 --   Going             from every progress that the loop may have begun at, it has come to one that the run comes to, and what the run
 --                     ends in is the same from both
+--   Running           the invariant of the loop
 --   going-start, going-step, going-less, going-end, going-done     the loop
 --
 -- Assumes nothing.
@@ -9,6 +10,8 @@ use mathlib.Core.Path.{_≡_, refl, _∙_, ap}
 use mathlib.Core.List.{List}
 use Prim.Native.Nat.{ℕ, _≤_, _<_}
 use native.Mathlib.Omega.{arith}
+use lib.IntN.{ℤ}
+use lib.ListN.{length}
 use Rattle.rules.specs.declared.RunAnswer.{RunAnswer}
 use Rattle.rules.specs.declared.Report.{Report}
 use Rattle.rules.specs.Meaning.{Values}
@@ -16,10 +19,11 @@ use Rattle.rules.specs.Run.{Task, Progress, opens, Ended, endedBy, chunks, onOp
 use Rattle.rules.proofs.ListLaws.{apart}
 use Rattle.rules.proofs.RunNext.{chunks-next}
 use Rattle.calls.specs.declared.after.Tally.{Tally}
+use Rattle.calls.specs.declared.next.Limits.{Limits}
 use Rattle.calls.specs.declared.next.Next.{Next}
 use Rattle.calls.specs.declared.next.Next.the-variants.{GoesOn, Ends}
 use Rattle.calls.specs.After.{EndsAt}
-use Rattle.calls.specs.Next.{At, NextTo, goes-on, ends, Called}
+use Rattle.calls.specs.Next.{At, NextTo, goes-on, ends, Called, task}
 use Rattle.calls.proofs.AfterLaws.{ends-shown}
 
 -- where the loop is, from the progress p where it began
@@ -33,6 +37,14 @@ Going k first t₀ status₀ log₀ t status log =
 
 pub going-start : (k : Task) (first : List ℕ) (t : Tally) (status log : List ℕ) → Going k first t status log t status log
 going-start k first t status log v = record { here = v; same = refl }
+
+-- the invariant of the loop: the buffers keep their lengths, and the run is where it was, or further
+pub record Running (es : List ℤ) (limits : Limits) (first : Values) (t₀ : Tally) (status₀ log₀ values₀ : List ℕ)
+    (t : Tally) (status log values : List ℕ) : Type 0 where
+  pub status-len : length status ≡ length status₀
+  pub log-len : length log ≡ length log₀
+  pub values-len : length values ≡ length values₀
+  pub going : Going (task es (length status₀) limits) first t₀ status₀ log₀ t status log
 
 -- the run from p on, by its next call
 abbrev onward : Task → ℕ → Progress → Ended

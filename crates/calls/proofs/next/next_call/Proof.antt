@@ -61,8 +61,8 @@ after-model-requires : tie.Need-after-model-requires
 after-model-requires c κs =
     let call = called (c .before .before .before .before .before) in
     let s = start (took call) in
-    let len : length (call .chunk-call .last .1 .1 .1 .1 .0) ≡ length (s .args .status .now) = call .chunk-call .kept .1 .1 .1 .1 .0
-    ∙ s .pre .over .values-len in
+    let kept = call .chunk-call .kept .1 .1 .1 .1 .0 in
+    let len : length (call .chunk-call .last .1 .1 .1 .1 .0) ≡ length (s .args .status .now) = kept ∙ s .pre .over .values-len in
     record { formula = rw len (s .pre .over .formula); tally = ready call; model-len = len }
 
 enum-told-2 : tie.Need-enum-told-2
