@@ -10,7 +10,7 @@
 use mathlib.Core.Path.{_≡_, refl, sym, _∙_, ap}
 use mathlib.Core.Logic.{_≢_, _⊎_, inl, inr}
 use mathlib.Core.List.{List, [], _++_, append-nil}
-use Prim.Native.Nat.{ℕ, suc, _+_, _-_, _*_, _≤_}
+use Prim.Native.Nat.{ℕ, _+_, _-_, _*_, _≤_}
 use native.Mathlib.Omega.{arith}
 use lib.IntN.{ℤ}
 use lib.ListN.{length, take, drop, replicate, length-replicate, drop-of-length-le}
@@ -20,7 +20,7 @@ use Rattle.rules.specs.declared.Report.{Report}
 use Rattle.rules.specs.Numbers.{maxVars}
 use Rattle.rules.specs.Meaning.{Values, clauses}
 use Rattle.rules.specs.Search.{Call, model, no-model, stopped}
-use Rattle.rules.specs.Run.{Task, opens, blank, begun, afterModel, firstCall, onFirst, chunks, run}
+use Rattle.rules.specs.Run.{Task, opens, begun, afterModel, firstCall, onFirst, chunks, run}
 use Rattle.rules.specs.Trace.{Reached, first-model}
 use Rattle.rules.specs.Answer.{logLength}
 use Rattle.rules.proofs.LogLaws.{blank-counts}
@@ -29,15 +29,15 @@ use Rattle.formula.specs.Formula.{Formula}
 use Rattle.formula.proofs.ClauseLaws.{callClauses-formula, length-starts, nil-up-to}
 use Rattle.search.specs.declared.call.CallEnd.{CallEnd}
 use Rattle.search.specs.Closings.{CallOver}
-use Rattle.search.specs.Calls.{valuesAfter, CallEnds}
+use Rattle.search.specs.Calls.{CallEnds}
 use Rattle.calls.specs.declared.after.Tally.{Tally}
 use Rattle.calls.specs.declared.after.Made.{Made}
 use Rattle.calls.specs.declared.next.Limits.{Limits}
 use Rattle.calls.specs.After.{Shows, EndsAt, RowRoom, RowLeft, TallyReady}
 use Rattle.calls.specs.Next.{At, task}
 use Rattle.calls.proofs.AfterLaws.{ends-row}
-use Rattle.calls.proofs.CallLaws.{ends-otherwise}
-use Rattle.backbone.specs.First.{firstOn, Cleared, started, RunDone}
+use Rattle.search.proofs.EndLaws.{was-otherwise}
+use Rattle.backbone.specs.First.{firstOn, Cleared, started, RunDone, ListDone}
 
 -- ---- the first model is kept
 
@@ -112,23 +112,29 @@ unfolding run
 run-first k c e = ap (λ (d : Call). onFirst d k) e
 
 -- where the first call found none, or was stopped: the row, and the values for a first model as they were
-pub done-by-row : (k : Task) {vs after first : Values} {e : CallEnd} {status log log′ : List ℕ} {r : Report} (vars : ℕ) {budget : ℕ} {t : Tally}
-    → Cleared status log → t ≡ started vars → k .vars ≡ length status → vars ≡ k .vars
-    → CallEnds (firstCall k) vs budget e after → e .outcome ≢ Outcome.Model
+pub done-by-row : (es : List ℤ) (limits : Limits) {vs after first : Values} {e : CallEnd} {status log log′ : List ℕ} {r : Report} (vars : ℕ)
+    {budget : ℕ} {t : Tally} → Cleared status log → t ≡ started vars → vars ≡ length status
+    → CallEnds (firstCall (task es (length status) limits)) vs budget e after → e .outcome ≢ Outcome.Model
     → RowLeft log t (e .outcome) (record { chunk = 0; spent = e .meter .spent }) r log′
-    → RunDone k r status log′ × (first ≡ valuesAfter (firstCall k) first)
-done-by-row k {first = first} {e} {status} {log} {log′} {r} vars {t = t} w z v n c ne x = go (ends-otherwise c ne)
+    → ListDone es (length status) limits first r first status log′
+done-by-row es limits {first = first} {e} {status} {log} {log′} {r} vars {t = t} w z n c ne x = go (was-otherwise c ne)
   where
+    k : Task
+    k = task es (length status) limits
+
     room : 6 * (t .calls + 1) ≤ length log
     room = room-begun w vars z
 
     shows : Shows (k .vars) (begun k []) t [] status log
-    shows = shows-begun w k [] vars z v refl n
+    shows = shows-begun w k [] vars z refl refl n
 
-    go : ((firstCall k ≡ no-model (e .meter .spent)) × (e .outcome ≡ Outcome.NoModel)) ⊎ ((firstCall k ≡ stopped (e .meter .spent)) × (e .outcome ≡ Outcome.Stopped))
-        → RunDone k r status log′ × (first ≡ valuesAfter (firstCall k) first)
-    go (inl (q, o)) = (rw (run-first k _ q) (ends-row k (begun k []) t shows room Outcome.NoModel (rw o at x)), rw q)
-    go (inr (q, o)) = (rw (run-first k _ q) (ends-row k (begun k []) t shows room Outcome.Stopped (rw o at x)), rw q)
+    go : ((firstCall k ≡ no-model (e .meter .spent)) × (e .outcome ≡ Outcome.NoModel))
+        ⊎ ((firstCall k ≡ stopped (e .meter .spent)) × (e .outcome ≡ Outcome.Stopped))
+        → ListDone es (length status) limits first r first status log′
+    go (inl (q, o)) =
+        record { done = rw (run-first k _ q) (ends-row k (begun k []) t shows room Outcome.NoModel (rw o at x)); first-is = rw q }
+    go (inr (q, o)) =
+        record { done = rw (run-first k _ q) (ends-row k (begun k []) t shows room Outcome.Stopped (rw o at x)); first-is = rw q }
 
 pub reached-first : (k : Task) (m : Values) (t : ℕ) → firstCall k ≡ model m t → {size : ℕ} → size ≡ 1 → Reached k size (afterModel k (begun k m) 0 m t)
 reached-first k m t e z = rw z (first-model m t e)

@@ -28,7 +28,8 @@ pub length-clauses : (es : List ℤ) → length (clauses es) ≡ count isZero es
 length-clauses [] = refl
 length-clauses (pos zero ∷ es) = ap suc (length-clauses es)
 length-clauses (pos (suc n) ∷ es) =
-    length-leading (pos (suc n)) (clauses es) ∙ length-clauses es ∙ sym (ap (λ (b : Bool). countIf b (count isZero es)) (eqz-other (pos (suc n)) (pos 0) (λ e. absurd (let y : suc n ≡ 0 = ap natAbs e in omega arith))))
+    length-leading (pos (suc n)) (clauses es) ∙ length-clauses es
+    ∙ sym (ap (λ (b : Bool). countIf b (count isZero es)) (eqz-other (pos (suc n)) (pos 0) (λ e. absurd (let y : suc n ≡ 0 = ap natAbs e in omega arith))))
 length-clauses (negsuc n ∷ es) = length-leading (negsuc n) (clauses es) ∙ length-clauses es
 
 -- the starts as they are found are those of the formula

@@ -22,11 +22,11 @@ use lib.ListN.{length, take, drop, replicate}
 use Rattle.rules.specs.declared.RunAnswer.{RunAnswer}
 use Rattle.rules.specs.declared.Report.{Report}
 use Rattle.rules.specs.Lists.{count}
-use Rattle.rules.specs.Meaning.{Clause, LitUpTo, clauses}
+use Rattle.rules.specs.Meaning.{LitUpTo, clauses}
 use Rattle.rules.specs.Models.{NoModel, Forced, Free, WitnessOf}
 use Rattle.rules.specs.Run.{Task, Row, Ended, statusAt, isForcedTo, run}
 use Rattle.rules.specs.Trace.{Ends, first-none, first-stopped, settled, next-stopped}
-use Rattle.rules.specs.Answer.{Given, given, logLength, refusalOf, taskOf, reportIf, reportOf, reportOfRun, statusAfter, logAfter, logOfRows, isFree, isForced, Runs}
+use Rattle.rules.specs.Answer.{Given, given, logLength, refusalOf, taskOf, reportIf, reportOf, reportOfRun, logOfRows, isFree, isForced, Runs}
 use Rattle.rules.specs.RunRefusals.{Accepted, RunRefuses, bad-limits, short-buffer, list-long, not-ended, zero-over, entry-over-vars}
 use Rattle.rules.specs.Log.{LogOf}
 use Rattle.rules.proofs.ListLaws.{never}
@@ -61,7 +61,8 @@ module _ {g : Given} {r : Report} {status log : List ℕ} (w : Runs g r status l
   -- ---- what is refused, and what is accepted
 
   -- a refused run returns zero counts and writes nothing
-  pub nothing-written : (a : RunAnswer) → RunRefuses g a → (r ≡ record { answer = a; calls = 0; tries = 0; forced = 0; free = 0 }) × (status ≡ g .status) × (log ≡ g .log)
+  pub nothing-written : (a : RunAnswer) → RunRefuses g a
+      → (r ≡ record { answer = a; calls = 0; tries = 0; forced = 0; free = 0 }) × (status ≡ g .status) × (log ≡ g .log)
   nothing-written a h =
       let (e, s, l) = theorems.run-refused-nothing g a h in (w .result-is ∙ e, w .status-is ∙ s, w .log-is ∙ l)
 
@@ -106,11 +107,13 @@ module _ {g : Given} {r : Report} {status log : List ℕ} (w : Runs g r status l
     table-is = ap (take (g .vars)) (w .status-is) ∙ theorems.run-status g h .0
 
     -- settled: a literal is marked forced exactly if a model exists and all models contain it
-    pub settled-forced : r .answer ≡ RunAnswer.Settled → (l : ℤ) → LitUpTo (g .vars) l → isForcedTo (take (g .vars) status) l ↔ Forced (g .vars) (clauses (g .entries)) l
+    pub settled-forced : r .answer ≡ RunAnswer.Settled → (l : ℤ) → LitUpTo (g .vars) l
+        → isForcedTo (take (g .vars) status) l ↔ Forced (g .vars) (clauses (g .entries)) l
     settled-forced e = rw table-is (theorems.settled-forced (taskOf g) limit (sym answer-is ∙ e))
 
     -- settled: a variable is marked free exactly if two models differ on it
-    pub settled-free : r .answer ≡ RunAnswer.Settled → (i : ℕ) → i < g .vars → (statusAt (take (g .vars) status) i ≡ 1) ↔ Free (g .vars) (clauses (g .entries)) i
+    pub settled-free : r .answer ≡ RunAnswer.Settled → (i : ℕ) → i < g .vars
+        → (statusAt (take (g .vars) status) i ≡ 1) ↔ Free (g .vars) (clauses (g .entries)) i
     settled-free e = rw table-is (theorems.settled-free (taskOf g) limit (sym answer-is ∙ e))
 
     -- settled: no variable is open
@@ -133,7 +136,8 @@ module _ {g : Given} {r : Report} {status log : List ℕ} (w : Runs g r status l
 
     -- however the run ended: a variable marked free has a model of that run, or one with this variable alone flipped that is still a
     -- model, that differs on it from the run's first model
-    pub free-witness : (i : ℕ) → i < g .vars → statusAt (take (g .vars) status) i ≡ 1 → WitnessOf (g .vars) (clauses (g .entries)) (run (taskOf g) .progress .models) i
+    pub free-witness : (i : ℕ) → i < g .vars → statusAt (take (g .vars) status) i ≡ 1
+        → WitnessOf (g .vars) (clauses (g .entries)) (run (taskOf g) .progress .models) i
     free-witness = rw table-is (theorems.free-witness (taskOf g) limit)
 
     -- calls begun are at most V + 1
@@ -146,14 +150,23 @@ module _ {g : Given} {r : Report} {status log : List ℕ} (w : Runs g r status l
 
     -- the counts returned are those of the table
     pub counted : (r .forced ≡ count isForced (take (g .vars) status)) × (r .free ≡ count isFree (take (g .vars) status))
-    counted =
-        (ap (λ (q : Report). q .forced) (returned h) ∙ ap (count isForced) (sym table-is), ap (λ (q : Report). q .free) (returned h) ∙ ap (count isFree) (sym table-is))
+    counted = (
+      ap (λ (q : Report). q .forced) (returned h) ∙ ap (count isForced) (sym table-is),
+      ap (λ (q : Report). q .free) (returned h)
+          ∙ ap (count isFree) (sym table-is),
+    )
 
     -- the log has a row for each call begun, and zeros behind; its rows are numbered from 1, each call after the first that finds a
     -- model frees at least one variable, each that finds none forces at least one, and the columns add up to what is returned
-    pub logged : (rows : List Row) × (take (logLength (g .vars)) log ≡ logOfRows (g .vars) rows) × (length rows ≡ r .calls) × LogOf rows (r .free) (r .forced) (r .tries)
-    logged =
-        (run (taskOf g) .progress .rows, ap (take (logLength (g .vars))) (w .log-is) ∙ theorems.run-log-buffer g h .0, ap (λ (q : Report). q .calls) (sym (returned h)), rw (returned h) (theorems.log-adds-up (taskOf g) limit))
+    pub logged : (rows : List Row) × (take (logLength (g .vars)) log ≡ logOfRows (g .vars) rows) × (length rows ≡ r .calls)
+        × LogOf rows (r .free) (r .forced) (r .tries)
+    logged = (
+      run (taskOf g) .progress .rows,
+      ap (take (logLength (g .vars))) (w .log-is)
+          ∙ theorems.run-log-buffer g h .0,
+      ap (λ (q : Report). q .calls) (sym (returned h)),
+      rw (returned h) (theorems.log-adds-up (taskOf g) limit),
+    )
 
     -- what stands behind the table and the rows stays
     pub rest-stays : (drop (g .vars) status ≡ drop (g .vars) (g .status)) × (drop (logLength (g .vars)) log ≡ drop (logLength (g .vars)) (g .log))
@@ -172,7 +185,8 @@ pub settled-same : {es : List ℤ} {vars : ℕ} (budget limit budget′ limit′
     → r .answer ≡ RunAnswer.Settled → r′ .answer ≡ RunAnswer.Settled → take vars status ≡ take vars status′
 settled-same {es} {vars} budget limit budget′ limit′ {st} {lg} w v h i e f =
     table-is w h ∙
-    theorems.settled-same (taskOf (given es vars budget limit st lg)) (limit-some h) budget′ limit′ (limit-some i) (sym (answer-is w h) ∙ e) (sym (answer-is v i) ∙ f) ∙
+    theorems.settled-same (taskOf (given es vars budget limit st lg)) (limit-some h) budget′ limit′ (limit-some i) (sym (answer-is w h) ∙ e)
+    (sym (answer-is v i) ∙ f) ∙
     sym (table-is v i)
   where
     limit-some : {g : Given} → Accepted g → 1 ≤ g .limit

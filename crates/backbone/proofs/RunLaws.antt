@@ -17,9 +17,9 @@ use Rattle.rules.specs.declared.RunAnswer.{RunAnswer}
 use Rattle.rules.specs.declared.Report.{Report}
 use Rattle.rules.specs.Numbers.{maxClauses}
 use Rattle.rules.specs.Meaning.{clauses}
-use Rattle.rules.specs.Run.{Task, run}
-use Rattle.rules.specs.Answer.{Given, logLength, refusalOf, taskOf, reportIf, reportOf, statusIf, statusAfter, logOfRows, logIf, logAfter, Runs}
+use Rattle.rules.specs.Answer.{Given, logLength, refusalOf, taskOf, reportIf, reportOf, statusIf, statusAfter, logIf, logAfter, Runs}
 use Rattle.rules.specs.RunRefusals.{Accepted}
+use Rattle.rules.proofs.ListLaws.{apart}
 use Rattle.rules.proofs.RefusedRuns.{run-accepted}
 use Rattle.refusals.specs.declared.Refusal.the-variants.{Accepted as NotRefused, Refused}
 use Rattle.refusals.specs.Refuse.{found}
@@ -31,19 +31,20 @@ use Rattle.backbone.specs.First.{RunDone}
 use Rattle.backbone.proofs.ListingLaws.{length-clauses}
 
 found-some : (o : Option RunAnswer) {a : RunAnswer} → Refused a ≡ found o → o ≡ some a
-found-some none e = absurd (let y : _≡_ {A = ℕ} 0 1 = cc in omega arith)
+found-some none e = apart cc
 found-some (some b) e = cc
 
 found-none : (o : Option RunAnswer) → NotRefused ≡ found o → o ≡ none
 found-none none e = refl
-found-none (some b) e = absurd (let y : _≡_ {A = ℕ} 0 1 = cc in omega arith)
+found-none (some b) e = apart cc
 
 -- the limits that a run is given
 abbrev pub limitsOf : Given → Limits
 limitsOf g = record { budget = g .budget; chunk = g .limit }
 
 module _ (g : Given) where
-  pub runs-refused : {a : RunAnswer} → Refused a ≡ found (refusalOf g) → Runs g (record { answer = a; calls = 0; tries = 0; forced = 0; free = 0 }) (g .status) (g .log)
+  pub runs-refused : {a : RunAnswer} → Refused a ≡ found (refusalOf g)
+      → Runs g (record { answer = a; calls = 0; tries = 0; forced = 0; free = 0 }) (g .status) (g .log)
   unfolding reportOf statusAfter logAfter
   runs-refused e =
       let o = found-some (refusalOf g) e in
@@ -90,6 +91,8 @@ module _ (g : Given) where
         go w =
             record {
               result-is = w .result-is ∙ ap (λ (r : Option RunAnswer). reportIf r (taskOf g)) (sym o);
-              status-is = ap (λ (xs : List ℕ). xs ++ drop (g .vars) (g .status)) (w .status-is) ∙ ap (λ (r : Option RunAnswer). statusIf r (taskOf g) (g .status)) (sym o);
-              log-is = ap (λ (xs : List ℕ). xs ++ drop (logLength (g .vars)) (g .log)) (w .log-is) ∙ ap (λ (r : Option RunAnswer). logIf r (taskOf g) (g .log)) (sym o);
+              status-is = ap (λ (xs : List ℕ). xs ++ drop (g .vars) (g .status)) (w .status-is)
+                  ∙ ap (λ (r : Option RunAnswer). statusIf r (taskOf g) (g .status)) (sym o);
+              log-is = ap (λ (xs : List ℕ). xs ++ drop (logLength (g .vars)) (g .log)) (w .log-is)
+                  ∙ ap (λ (r : Option RunAnswer). logIf r (taskOf g) (g .log)) (sym o);
             }

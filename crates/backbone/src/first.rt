@@ -15,25 +15,16 @@ use search::call::CallEnd;
 use search::call::go_on;
 use search::meter::Meter;
 ghost use mathlib.Core.Path.{_≡_};
-ghost use Prim.Native.Nat.{_≤_};
 ghost use lib.ListN.{length};
-ghost use Rattle.rules.specs.Numbers.{maxClauses};
-ghost use Rattle.rules.specs.Meaning.{clauses};
-ghost use Rattle.rules.specs.Search.{model};
-ghost use Rattle.rules.specs.Run.{blank, firstCall};
-ghost use Rattle.rules.specs.Answer.{logLength};
-ghost use Rattle.formula.specs.Starts.{startsOf};
 ghost use Rattle.formula.specs.Formula.{Formula};
-ghost use Rattle.search.specs.Calls.{valuesAfter, CallEnds};
-ghost use Rattle.calls.specs.Next.{Allowed, task};
-ghost use Rattle.backbone.specs.First.{Cleared, RunDone, firstOn, started};
+ghost use Rattle.backbone.specs.First.{FirstCalled, started, FirstFound, CallsBegin, RunBegins, ListTaken, ListDone};
 
 // The first call, from no value, on the formula alone.
 // Rules out: a call from the values that were there; one that starts with a try spent.
 // Required of: all_calls, which requires it too.
 fn first_call(entries: &[i32], starts: &[u16], values: &mut [u8], budget: u32) -> CallEnd
     requires { ⌜ Formula (length (now values)) (now entries) (now starts) ⌝ }
-    ensures { λ r. ⌜ CallEnds (firstOn (now (entries .entry)) (length (now (values .entry))) budget) (blank (length (now (values .entry)))) budget r (now (values .exit)) ⌝ }
+    ensures { λ r. ⌜ FirstCalled (now (entries .entry)) (length (now (values .entry))) budget r (now (values .exit)) ⌝ }
 {
     clear_bytes(values);
     let total = (starts.len() - 1) as u32;
@@ -77,8 +68,9 @@ fn settle(
     spent: u32,
     limits: Limits,
 ) -> Report
-    requires { ⌜ Formula (length (now status)) (now entries) (now starts) × (length (now values) ≡ length (now status)) × (length (now first) ≡ length (now status)) × Cleared (now status) (now log) × Allowed limits × (firstCall (task (now entries) (length (now status)) limits) ≡ model (now values) spent) ⌝ }
-    ensures { λ r. ⌜ RunDone (task (now (entries .entry)) (length (now (status .entry))) limits) r (now (status .exit)) (now (log .exit)) × (now (first .exit) ≡ now (values .entry)) ⌝ }
+    requires { ⌜ FirstFound (now entries) (now starts) (now values) (now first) (now status) (now log) spent limits ⌝ }
+    ensures { λ r. ⌜ ListDone (now (entries .entry)) (length (now (status .entry))) limits (now (first .entry))
+        r (now (first .exit)) (now (status .exit)) (now (log .exit)) ⌝ }
 {
     copy_first(values, first, values.len());
     let t = started(values.len() as u32);
@@ -102,8 +94,9 @@ fn all_calls(
     log: &mut [u32],
     limits: Limits,
 ) -> Report
-    requires { ⌜ Formula (length (now status)) (now entries) (now starts) × (length (now values) ≡ length (now status)) × (length (now first) ≡ length (now status)) × Cleared (now status) (now log) × Allowed limits ⌝ }
-    ensures { λ r. ⌜ RunDone (task (now (entries .entry)) (length (now (status .entry))) limits) r (now (status .exit)) (now (log .exit)) × (now (first .exit) ≡ valuesAfter (firstCall (task (now (entries .entry)) (length (now (status .entry))) limits)) (now (first .entry))) ⌝ }
+    requires { ⌜ CallsBegin (now entries) (now starts) (now values) (now first) (now status) (now log) limits ⌝ }
+    ensures { λ r. ⌜ ListDone (now (entries .entry)) (length (now (status .entry))) limits (now (first .entry))
+        r (now (first .exit)) (now (status .exit)) (now (log .exit)) ⌝ }
 {
     let end = first_call(entries, starts, values, limits.budget);
     let meter = end.meter;
@@ -134,11 +127,12 @@ fn room_for_values(
     log: &mut [u32],
     limits: Limits,
 ) -> Report
-    requires { ⌜ Formula (length (now status)) (now entries) (now starts) × (length (now first) ≡ length (now status)) × Cleared (now status) (now log) × Allowed limits ⌝ }
-    ensures { λ r. ⌜ RunDone (task (now (entries .entry)) (length (now (status .entry))) limits) r (now (status .exit)) (now (log .exit)) × (now (first .exit) ≡ valuesAfter (firstCall (task (now (entries .entry)) (length (now (status .entry))) limits)) (now (first .entry))) ⌝ }
+    requires { ⌜ RunBegins (now entries) (now starts) (now first) (now status) (now log) limits ⌝ }
+    ensures { λ r. ⌜ ListDone (now (entries .entry)) (length (now (status .entry))) limits (now (first .entry))
+        r (now (first .exit)) (now (status .exit)) (now (log .exit)) ⌝ }
 {
     let n = status.len();
-    let mut values = [0u8; 256];
+    let mut values = [0u8; rules::MAX_VARS as usize];
     all_calls(
         entries,
         starts,
@@ -161,12 +155,13 @@ pub fn accepted_run(
     log: &mut [u32],
     limits: Limits,
 ) -> Report
-    requires { ⌜ Formula (length (now status)) (now entries) (startsOf (now entries)) × (length (clauses (now entries)) ≤ maxClauses) × (length (now first) ≡ length (now status)) × (length (now log) ≡ logLength (length (now status))) × Allowed limits ⌝ }
-    ensures { λ r. ⌜ RunDone (task (now (entries .entry)) (length (now (status .entry))) limits) r (now (status .exit)) (now (log .exit)) × (now (first .exit) ≡ valuesAfter (firstCall (task (now (entries .entry)) (length (now (status .entry))) limits)) (now (first .entry))) ⌝ }
+    requires { ⌜ ListTaken (now entries) (now first) (now status) (now log) limits ⌝ }
+    ensures { λ r. ⌜ ListDone (now (entries .entry)) (length (now (status .entry))) limits (now (first .entry))
+        r (now (first .exit)) (now (status .exit)) (now (log .exit)) ⌝ }
 {
     clear_bytes(status);
     clear_numbers(log);
-    let mut starts = [0u16; 1025];
+    let mut starts = [0u16; rules::MAX_CLAUSES as usize + 1];
     let count = find_starts(entries, &mut starts);
     room_for_values(entries, &starts[..count + 1], first, status, log, limits)
 }

@@ -14,7 +14,8 @@ pub fn run(
     status: &mut [u8],
     log: &mut [u32],
 ) -> rules::Report
-    ensures { λ r. ⌜ Runs (given (now (entries .entry)) vars budget «chunk_limit» (now (status .entry)) (now (log .entry))) r (now (status .exit)) (now (log .exit)) ⌝ }
+    ensures { λ r. ⌜ Runs (given (now (entries .entry)) vars budget «chunk_limit» (now (status .entry)) (now (log .entry)))
+        r (now (status .exit)) (now (log .exit)) ⌝ }
 {
     let refusal = refusals::refuse(entries, vars, chunk_limit, status, log);
     match refusal {
@@ -27,7 +28,7 @@ pub fn run(
         },
         refusals::Refusal::Accepted => {
             let n = vars as usize;
-            let mut first = [0u8; 256];
+            let mut first = [0u8; rules::MAX_VARS as usize];
             first::accepted_run(
                 entries,
                 &mut first[..n],

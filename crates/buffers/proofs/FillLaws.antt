@@ -27,7 +27,8 @@ module _ {A : Type 0} where
       record {
         within = omega (arith, length-set now i x);
         len = length-set now i x ∙ w .len;
-        front = rw add-one (take-suc-set now i x h ∙ ap (λ (xs : List A). xs ++ (x ∷ [])) (w .front) ∙ ap (λ (y : A). take i target ++ (y ∷ [])) (sym e) ∙ sym (take-suc target i d (omega (arith, w .len))));
+        front = rw add-one (take-suc-set now i x h ∙ ap (λ (xs : List A). xs ++ (x ∷ [])) (w .front)
+            ∙ ap (λ (y : A). take i target ++ (y ∷ [])) (sym e) ∙ sym (take-suc target i d (omega (arith, w .len))));
       }
 
   pub filled-done : {target now : List A} {i : ℕ} → Filled target i now → length now ≤ i → now ≡ target

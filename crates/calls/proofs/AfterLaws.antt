@@ -60,7 +60,8 @@ length-logOfRows vars rows =
 pub rows-room : (vars : ℕ) (rows : List Row) → 6 * (length rows + 1) ≤ length (logOfRows vars rows) → length rows ≤ vars
 rows-room vars rows h = omega (arith, length-logOfRows vars rows)
 
-pub logOfRows-put : (vars : ℕ) (rows : List Row) (r : Row) → length rows ≤ vars → sets (logOfRows vars rows) (6 * length rows) (rowNumbers r) ≡ logOfRows vars (rows ++ (r ∷ []))
+pub logOfRows-put : (vars : ℕ) (rows : List Row) (r : Row) → length rows ≤ vars
+    → sets (logOfRows vars rows) (6 * length rows) (rowNumbers r) ≡ logOfRows vars (rows ++ (r ∷ []))
 logOfRows-put vars rows r h =
     sets-eq (rowNumbers r) (logOfRows vars rows) i (omega (arith, length-logOfRows vars rows)) ∙
     ap (λ (xs : List ℕ). xs ++ rowNumbers r ++ drop (i + 6) (logOfRows vars rows)) (take-at J Z i (length-rows rows)) ∙
@@ -138,7 +139,17 @@ module _ (k : Task) (p : Progress) (t : Tally) {first status log : List ℕ} (w 
             candidates-are = omega (arith, w .candidates-are, compared-opens, d .counted, g .drops .counted, ap opens last-is, ap opens (w .status-is));
             calls-is = omega (arith, w .calls-is, length-append (p .rows) (modelRow k p (made .chunk) m (made .spent) ∷ []));
             tries-is = refl;
-            free-is = omega (arith, w .free-is, by-compare .free-more, by-flip .free-more, compared-opens, d .counted, g .drops .counted, ap opens last-is, ap opens (w .status-is));
+            free-is = omega (
+              arith,
+              w .free-is,
+              by-compare .free-more,
+              by-flip .free-more,
+              compared-opens,
+              d .counted,
+              g .drops .counted,
+              ap opens last-is,
+              ap opens (w .status-is),
+            );
             forced-is = w .forced-is ∙ sym (by-flip .forced-same ∙ by-compare .forced-same);
           },
         )
@@ -178,8 +189,10 @@ module _ (k : Task) (p : Progress) (t : Tally) {first status log : List ℕ} (w 
             (rowNumbers (modelRow k p (made .chunk) m (made .spent)))
         row-is =
             let a : t .calls + 1 ≡ suc (length (p .rows)) = omega (arith, w .calls-is) in
-            let b : c ≡ opens (p .statuses) - opens (compared (p .first) m (p .statuses)) = omega (arith, d .counted, ap opens (w .status-is), compared-opens) in
-            let h : f ≡ opens (compared (p .first) m (p .statuses)) - opens (filtered k p m) = omega (arith, g .drops .counted, compared-opens, ap opens last-is) in
+            let b : c ≡ opens (p .statuses) - opens (compared (p .first) m (p .statuses)) =
+            omega (arith, d .counted, ap opens (w .status-is), compared-opens) in
+            let h : f ≡ opens (compared (p .first) m (p .statuses)) - opens (filtered k p m) =
+            omega (arith, g .drops .counted, compared-opens, ap opens last-is) in
             let s : made .spent - t .tries ≡ made .spent - p .tries = omega (arith, w .tries-is) in
             cc (a, b, h, s)
 

@@ -1,26 +1,23 @@
--- The laws of specs/Next: what a chunk's call needs and is, what its end says, and what each end makes of the run.
+-- The laws of specs/Next: what a chunk's call needs and is, and what each end makes of the run.
 --
 --   constraint-up-to  the constraint is over the formula's variables
 --   chunk-over        what `go_on` needs
 --   chunk-clauses, ends-same     the clauses of the call, and its end by them
---   ends-model, ends-none, ends-stopped, ends-otherwise     the call, by what it ended with
 --   call-next         what comes of a call, whatever is done next
 --   size-le           a chunk size is within the limit
 --   tally-ready       there is room for one row more, and no count is out of range
 --
 -- Assumes nothing.
-use mathlib.Core.Path.{_≡_, refl, sym, _∙_, ap}
-use mathlib.Core.Logic.{_≢_, _⊎_, inl, inr}
+use mathlib.Core.Path.{_≡_, sym, _∙_, ap}
 use mathlib.Core.List.{List, [], _∷_, _++_}
 use Prim.Native.Nat.{ℕ, zero, suc, _+_, _≤_, _<_, min}
 use native.Mathlib.Omega.{arith}
 use lib.IntN.{ℤ}
 use lib.ListN.{length, getD, take}
-use Rattle.rules.specs.declared.Outcome.{Outcome}
-use Rattle.rules.specs.Lists.{In, count}
+use Rattle.rules.specs.Lists.{In}
 use Rattle.rules.specs.Numbers.{maxVars}
 use Rattle.rules.specs.Meaning.{Clause, Values, varOf, negated, clauses, LitUpTo}
-use Rattle.rules.specs.Search.{Call, model, no-model, stopped, outcomeOf, triesOf, callOn}
+use Rattle.rules.specs.Search.{Call, callOn}
 use Rattle.rules.specs.Run.{Task, Progress, statusAt, opens, candidatesFrom, constraint, chunkCall, Ended, onCall, onOpen}
 use Rattle.rules.specs.Trace.{Reached, first-model, next-model, next-none}
 use Rattle.rules.specs.Answer.{isFree, isForced}
@@ -35,7 +32,7 @@ use Rattle.formula.specs.Formula.{Formula}
 use Rattle.formula.proofs.ClauseLaws.{callClauses-constraint, length-starts}
 use Rattle.search.specs.declared.call.CallEnd.{CallEnd}
 use Rattle.search.specs.Closings.{CallOver}
-use Rattle.search.specs.Calls.{CallEnds, valuesAfter}
+use Rattle.search.specs.Calls.{CallEnds}
 use Rattle.calls.specs.declared.after.Tally.{Tally}
 use Rattle.calls.specs.declared.after.Made.{Made}
 use Rattle.calls.specs.After.{TallyReady}
@@ -72,44 +69,6 @@ module _ {es : List ℤ} {starts : List ℕ} {n : ℕ} (f : Formula n es starts)
 pub ends-same : (t : ℕ) {F G : List Clause} {vs ws after : Values} {budget : ℕ} {r : CallEnd} → F ≡ G → vs ≡ ws
     → CallEnds (callOn budget F vs t) vs budget r after → CallEnds (callOn budget G ws t) ws budget r after
 ends-same t e f w = rw (← e, ← f) w
-
--- ---- what its end says
-
-module _ {c : Call} {vs after : Values} {budget : ℕ} {r : CallEnd} (w : CallEnds c vs budget r after) where
-  pub ends-model : r .outcome ≡ Outcome.Model → c ≡ model after (r .meter .spent)
-  ends-model e = go c (w .outcome-is) (w .spent-is) (w .values-are)
-    where
-      go : (c : Call) → r .outcome ≡ outcomeOf c → r .meter .spent ≡ triesOf c → after ≡ valuesAfter c vs → c ≡ model after (r .meter .spent)
-      go (model m t) o s v = cc
-      go (no-model t) o s v = absurd (let y : _≡_ {A = ℕ} 0 1 = cc in omega arith)
-      go (stopped t) o s v = absurd (let y : _≡_ {A = ℕ} 0 1 = cc in omega arith)
-
-  pub ends-none : r .outcome ≡ Outcome.NoModel → c ≡ no-model (r .meter .spent)
-  ends-none e = go c (w .outcome-is) (w .spent-is)
-    where
-      go : (c : Call) → r .outcome ≡ outcomeOf c → r .meter .spent ≡ triesOf c → c ≡ no-model (r .meter .spent)
-      go (model m t) o s = absurd (let y : _≡_ {A = ℕ} 0 1 = cc in omega arith)
-      go (no-model t) o s = cc
-      go (stopped t) o s = absurd (let y : _≡_ {A = ℕ} 0 1 = cc in omega arith)
-
-  pub ends-stopped : r .outcome ≡ Outcome.Stopped → c ≡ stopped (r .meter .spent)
-  ends-stopped e = go c (w .outcome-is) (w .spent-is)
-    where
-      go : (c : Call) → r .outcome ≡ outcomeOf c → r .meter .spent ≡ triesOf c → c ≡ stopped (r .meter .spent)
-      go (model m t) o s = absurd (let y : _≡_ {A = ℕ} 0 1 = cc in omega arith)
-      go (no-model t) o s = absurd (let y : _≡_ {A = ℕ} 0 1 = cc in omega arith)
-      go (stopped t) o s = cc
-
-  -- a call that found no model: none, or stopped
-  pub ends-otherwise : r .outcome ≢ Outcome.Model
-      → ((c ≡ no-model (r .meter .spent)) × (r .outcome ≡ Outcome.NoModel)) ⊎ ((c ≡ stopped (r .meter .spent)) × (r .outcome ≡ Outcome.Stopped))
-  ends-otherwise ne = go (r .outcome) refl
-    where
-      go : (o : Outcome) → r .outcome ≡ o
-          → ((c ≡ no-model (r .meter .spent)) × (r .outcome ≡ Outcome.NoModel)) ⊎ ((c ≡ stopped (r .meter .spent)) × (r .outcome ≡ Outcome.Stopped))
-      go Outcome.Model e = absurd (ne e)
-      go Outcome.NoModel e = inl (ends-none e, e)
-      go Outcome.Stopped e = inr (ends-stopped e, e)
 
 -- ---- what comes of it
 

@@ -2,6 +2,7 @@
 --
 --   Going             from every progress that the loop may have begun at, it has come to one that the run comes to, and what the run
 --                     ends in is the same from both
+--   Running           the invariant of the loop
 --   going-start, going-step, going-less, going-end, going-done     the loop
 --
 -- Assumes nothing.
@@ -9,16 +10,20 @@ use mathlib.Core.Path.{_≡_, refl, _∙_, ap}
 use mathlib.Core.List.{List}
 use Prim.Native.Nat.{ℕ, _≤_, _<_}
 use native.Mathlib.Omega.{arith}
+use lib.IntN.{ℤ}
+use lib.ListN.{length}
 use Rattle.rules.specs.declared.RunAnswer.{RunAnswer}
 use Rattle.rules.specs.declared.Report.{Report}
 use Rattle.rules.specs.Meaning.{Values}
 use Rattle.rules.specs.Run.{Task, Progress, opens, Ended, endedBy, chunks, onOpen}
+use Rattle.rules.proofs.ListLaws.{apart}
 use Rattle.rules.proofs.RunNext.{chunks-next}
 use Rattle.calls.specs.declared.after.Tally.{Tally}
+use Rattle.calls.specs.declared.next.Limits.{Limits}
 use Rattle.calls.specs.declared.next.Next.{Next}
 use Rattle.calls.specs.declared.next.Next.the-variants.{GoesOn, Ends}
 use Rattle.calls.specs.After.{EndsAt}
-use Rattle.calls.specs.Next.{At, NextTo, goes-on, ends, Called}
+use Rattle.calls.specs.Next.{At, NextTo, goes-on, ends, Called, task}
 use Rattle.calls.proofs.AfterLaws.{ends-shown}
 
 -- where the loop is, from the progress p where it began
@@ -32,6 +37,14 @@ Going k first t₀ status₀ log₀ t status log =
 
 pub going-start : (k : Task) (first : List ℕ) (t : Tally) (status log : List ℕ) → Going k first t status log t status log
 going-start k first t status log v = record { here = v; same = refl }
+
+-- the invariant of the loop: the buffers keep their lengths, and the run is where it was, or further
+pub record Running (es : List ℤ) (limits : Limits) (first : Values) (t₀ : Tally) (status₀ log₀ values₀ : List ℕ)
+    (t : Tally) (status log values : List ℕ) : Type 0 where
+  pub status-len : length status ≡ length status₀
+  pub log-len : length log ≡ length log₀
+  pub values-len : length values ≡ length values₀
+  pub going : Going (task es (length status₀) limits) first t₀ status₀ log₀ t status log
 
 -- the run from p on, by its next call
 abbrev onward : Task → ℕ → Progress → Ended
@@ -47,11 +60,11 @@ further : {k : Task} {size : ℕ} {p : Progress} {first : List ℕ} {r : Next} {
     → NextTo k size p first r status log → r ≡ GoesOn t → Further k size p first t status log
 further {k} {size} {p} {first} {r} {t} {status} {log} (goes-on {t = u} w o e) q =
     let same : u ≡ t = cc in rw (← same) (record { there = w; fewer = o; same = e (λ n q. chunks k n q) })
-further (ends e x f) r = absurd (let y : _≡_ {A = ℕ} 0 1 = cc in omega arith)
+further (ends e x f) r = apart cc
 
 ended-there : {k : Task} {size : ℕ} {p : Progress} {first : List ℕ} {r : Next} {u : Report} {status log : List ℕ}
     → NextTo k size p first r status log → r ≡ Ends u → EndsAt (k .vars) (onward k size p) u status log
-ended-there (goes-on w o e) q = absurd (let y : _≡_ {A = ℕ} 0 1 = cc in omega arith)
+ended-there (goes-on w o e) q = apart cc
 ended-there {k} {size} {p} {first} {r} {u} {status} {log} (ends {r = a} z x e) q =
     let same : a ≡ u = cc in rw (e (λ n q. chunks k n q)) (rw same at x)
 

@@ -31,11 +31,16 @@ use Rattle.calls.specs.declared.next.Next.the-variants.{GoesOn, Ends}
 use Rattle.calls.specs.After.{ModelLeft, NoneLeft, RowLeft}
 use Rattle.calls.specs.Next.{At, Called, chunkClauses, chunkOn, goes-on, ends, task}
 use Rattle.calls.proofs.AfterLaws.{shows-model, shows-none, ends-row}
-use Rattle.calls.proofs.CallLaws.{ends-model, ends-none, ends-stopped, call-next}
+use Rattle.search.proofs.EndLaws.{was-model, was-none, was-stopped}
+use Rattle.calls.proofs.CallLaws.{call-next}
 
 pub call-up : (es : List ℤ) (first : Values) (status : List ℕ) (chunk : ℕ) (meter : Meter) {vs after : Values} {budget : ℕ} {r : CallEnd}
     → CallEnds (chunkOn es first status chunk meter) vs budget r after → meter .spent ≤ r .meter .spent
-call-up es first status chunk meter w = omega (arith, w .spent-is, callOn-tries (meter .budget) (chunkClauses es first status chunk) (forcedValues status) (meter .spent) .up)
+call-up es first status chunk meter w = omega (
+  arith,
+  w .spent-is,
+  callOn-tries (meter .budget) (chunkClauses es first status chunk) (forcedValues status) (meter .spent) .up,
+)
 
 suc-pred : (m : ℕ) → 1 ≤ m → m ≡ suc (pred m)
 suc-pred zero h = absurd (omega arith)
@@ -101,7 +106,7 @@ module _ (es : List ℤ) (vars : ℕ) (limits : Limits) {t : Tally} {first statu
           → Called k (t .size) p first (GoesOn u) status′ log′ m
       on-model o {u} l =
           let (z, x) = shows-model k p t (w .shows) room refl l in
-          let q = ends-model e o in
+          let q = was-model e o in
           let y = next-model after (r .meter .spent) (w .reached) (takes-min (t .size) p opens-are) (call q) in
           let there = afterModel k p taken after (r .meter .spent) in
           record {
@@ -118,7 +123,7 @@ module _ (es : List ℤ) (vars : ℕ) (limits : Limits) {t : Tally} {first statu
       on-none o {u} l =
           let here = known (w .reached) in
           let (z, x) = shows-none k p t (w .shows) room (first-model-is here .len ∙ sym (here .len)) (omega (arith, same, opens-are)) l in
-          let q = ends-none e o in
+          let q = was-none e o in
           let y = next-none (r .meter .spent) (w .reached) (takes-min (t .size) p opens-are) (call q) (doubled-min (t .size) (limits .chunk)) in
           let there = afterNone p taken (r .meter .spent) in
           let fewer = none-forces taken (w .reached) (omega (arith, opens-are)) .opens-less in
@@ -136,6 +141,6 @@ module _ (es : List ℤ) (vars : ℕ) (limits : Limits) {t : Tally} {first statu
       on-stopped o {u} l =
           let x = ends-row k p t (w .shows) room Outcome.Stopped l in
           record {
-            next = ends {r = u} (endedBy RunAnswer.Stopped (afterStop p taken (r .meter .spent))) (rw same at x) (on-next (ends-stopped e o));
+            next = ends {r = u} (endedBy RunAnswer.Stopped (afterStop p taken (r .meter .spent))) (rw same at x) (on-next (was-stopped e o));
             values-are = values-left;
           }

@@ -1,20 +1,22 @@
 -- A progress of the run as code has it: the first model, the statuses and the log in buffers, and the counts in a tally; what each end
 -- of a call leaves of it. Assumes nothing.
 use mathlib.Core.Path.{_≡_}
-use mathlib.Core.List.{List, [], _∷_}
+use mathlib.Core.List.{List}
 use Prim.Native.Nat.{ℕ, _+_, _-_, _*_, _≤_, min}
+use lib.IntN.{ℤ}
 use lib.ListN.{length}
-use lib.Seq.{sets}
 use Rattle.rules.specs.declared.Outcome.{Outcome}
 use Rattle.rules.specs.declared.RunAnswer.{RunAnswer}
 use Rattle.rules.specs.declared.Report.{Report}
 use Rattle.rules.specs.Lists.{count}
-use Rattle.rules.specs.Numbers.{maxVars, outcomeNumber}
+use Rattle.rules.specs.Numbers.{maxVars}
 use Rattle.rules.specs.Meaning.{Clause, Values}
 use Rattle.rules.specs.Run.{Progress, opens, differs, forceFirst, Ended}
 use Rattle.rules.specs.Answer.{isFree, isForced, logOfRows, reportOfRun}
+use Rattle.formula.specs.Formula.{Formula}
 use Rattle.steps.specs.Filter.{Drops}
 use Rattle.steps.specs.Flip.{Flips}
+use Rattle.steps.specs.Row.{withRow}
 use Rattle.calls.specs.declared.after.Tally.{Tally}
 use Rattle.calls.specs.declared.after.Made.{Made}
 
@@ -52,6 +54,18 @@ pub record TallyReady (first status log : List ℕ) (t : Tally) (made : Made) : 
   pub free-fit : t .free ≤ maxVars
   pub forced-fit : t .forced ≤ maxVars
 
+-- after a model, also a formula over as many variables as the model has
+pub record ModelReady (es : List ℤ) (starts : List ℕ) (first m : Values) (status log : List ℕ) (t : Tally) (made : Made) : Type 0 where
+  pub formula : Formula (length m) es starts
+  pub tally : TallyReady first status log t made
+  pub model-len : length m ≡ length status
+
+-- after none, also a chunk of candidates, and a size that can be doubled
+pub record NoneReady (first status log : List ℕ) (t : Tally) (made : Made) : Type 0 where
+  pub tally : TallyReady first status log t made
+  pub chunk-most : made .chunk ≤ t .candidates
+  pub size-fit : t .size ≤ maxVars
+
 -- ---- what is left
 
 abbrev pub doubled : ℕ → ℕ → ℕ
@@ -66,7 +80,8 @@ answerOf Outcome.Stopped = RunAnswer.Stopped
 -- the log with the row of the next call: what it ended with, its chunk, what compare and flip dropped, and the tries spent by then
 abbrev pub rowPut : List ℕ → Tally → Outcome → Made → ℕ → ℕ → List ℕ
 rowPut log t o made c f =
-    sets log (6 * t .calls) ((t .calls + 1) ∷ outcomeNumber o ∷ made .chunk ∷ c ∷ f ∷ (made .spent - t .tries) ∷ [])
+    withRow log (t .calls) (t .tries)
+    (record { outcome = o; chunk = made .chunk; «by_compare» = c; «by_flip» = f; spent = made .spent })
 
 -- a model: compare, then flip, each with what it dropped; the chunk size is 1, and the model as it was
 pub record ModelLeft (F : List Clause) (first m : Values) (status log : List ℕ) (t : Tally) (made : Made)

@@ -8,10 +8,8 @@ use steps::row::Row;
 use steps::row::put_row;
 ghost use mathlib.Core.Path.{_≡_};
 ghost use Prim.Native.Nat.{_≤_};
-ghost use lib.ListN.{length};
 ghost use Rattle.rules.specs.Meaning.{clauses};
-ghost use Rattle.formula.specs.Formula.{Formula};
-ghost use Rattle.calls.specs.After.{RowRoom, TallyReady, doubled, answerOf, ModelLeft, NoneLeft, RowLeft};
+ghost use Rattle.calls.specs.After.{RowRoom, ModelReady, NoneReady, doubled, answerOf, ModelLeft, NoneLeft, RowLeft};
 
 // How far a run has come, beside the statuses and the log: the chunk size that is next, the candidates that remain, calls begun, tries,
 // and how many variables are free and forced.
@@ -43,8 +41,9 @@ pub fn after_model(
     t: Tally,
     made: Made,
 ) -> Tally
-    requires { ⌜ Formula (length (now model)) (now entries) (now starts) × TallyReady (now first) (now status) (now log) t made × (length (now model) ≡ length (now status)) ⌝ }
-    ensures { λ r. ⌜ ModelLeft (clauses (now (entries .entry))) (now (first .entry)) (now (model .entry)) (now (status .entry)) (now (log .entry)) t made r (now (model .exit)) (now (status .exit)) (now (log .exit)) ⌝ }
+    requires { ⌜ ModelReady (now entries) (now starts) (now first) (now model) (now status) (now log) t made ⌝ }
+    ensures { λ r. ⌜ ModelLeft (clauses (now (entries .entry))) (now (first .entry)) (now (model .entry)) (now (status .entry))
+        (now (log .entry)) t made r (now (model .exit)) (now (status .exit)) (now (log .exit)) ⌝ }
 {
     let by_compare = compare(first, model, status);
     let by_flip = flip(entries, starts, model, status);
@@ -95,7 +94,7 @@ pub fn after_none(
     made: Made,
     limit: u32,
 ) -> Tally
-    requires { ⌜ TallyReady (now first) (now status) (now log) t made × (made .chunk ≤ t .candidates) × (t .size ≤ 256) ⌝ }
+    requires { ⌜ NoneReady (now first) (now status) (now log) t made ⌝ }
     ensures { λ r. ⌜ NoneLeft (now (first .entry)) (now (status .entry)) (now (log .entry)) t made limit r (now (status .exit)) (now (log .exit)) ⌝ }
 {
     steps::chunk::force_first(first, status, made.chunk);

@@ -12,13 +12,8 @@ use search::call::CallEnd;
 use search::call::go_on;
 use search::meter::Meter;
 ghost use mathlib.Core.Path.{_≡_};
-ghost use Prim.Native.Nat.{_≤_, min};
-ghost use lib.ListN.{length};
-ghost use Rattle.rules.specs.Run.{opens, forcedValues, chunks};
-ghost use Rattle.formula.specs.Formula.{Formula};
-ghost use Rattle.search.specs.Calls.{CallEnds};
-ghost use Rattle.calls.specs.After.{EndsAt};
-ghost use Rattle.calls.specs.Next.{Allowed, At, Called, chunkOn, task};
+ghost use Prim.Native.Nat.{min};
+ghost use Rattle.calls.specs.Next.{ChunkOver, ChunkCalled, CallDue, CalledFrom, CallsOver, EndsFrom};
 
 // How many tries the run may take, and how many candidates a call.
 pub struct Limits {
@@ -45,11 +40,11 @@ fn chunk_call(
     chunk: u32,
     meter: Meter,
 ) -> CallEnd
-    requires { ⌜ Formula (length (now values)) (now entries) (now starts) × (length (now first) ≡ length (now values)) × (length (now status) ≡ length (now values)) × (chunk ≤ opens (now status)) ⌝ }
-    ensures { λ r. ⌜ CallEnds (chunkOn (now (entries .entry)) (now (first .entry)) (now (status .entry)) chunk meter) (forcedValues (now (status .entry))) (meter .budget) r (now (values .exit)) ⌝ }
+    requires { ⌜ ChunkOver (now entries) (now starts) (now first) (now status) (now values) chunk ⌝ }
+    ensures { λ r. ⌜ ChunkCalled (now (entries .entry)) (now (first .entry)) (now (status .entry)) chunk meter r (now (values .exit)) ⌝ }
 {
     steps::chunk::fill_start(status, values);
-    let mut literals = [0i32; 256];
+    let mut literals = [0i32; rules::MAX_CHUNK as usize];
     let n = chunk as usize;
     steps::constraint::put_constraint(first, status, n, &mut literals);
     let total = starts.len() as u32;
@@ -75,8 +70,9 @@ fn next_call(
     t: Tally,
     limits: Limits,
 ) -> Next
-    requires { ⌜ Formula (length (now status)) (now entries) (now starts) × (length (now values) ≡ length (now status)) × Allowed limits × At (task (now entries) (length (now status)) limits) t (now first) (now status) (now log) × (1 ≤ t .candidates) ⌝ }
-    ensures { λ r. ⌜ ((w : At (task (now (entries .entry)) (length (now (status .entry))) limits) t (now (first .entry)) (now (status .entry)) (now (log .entry))) → Called (task (now (entries .entry)) (length (now (status .entry))) limits) (t .size) (w .progress) (now (first .entry)) r (now (status .exit)) (now (log .exit)) (now (values .exit))) ⌝ }
+    requires { ⌜ CallDue (now entries) (now starts) (now first) (now status) (now log) (now values) t limits ⌝ }
+    ensures { λ r. ⌜ CalledFrom (now (entries .entry)) limits t (now (first .entry)) (now (status .entry)) (now (log .entry))
+        r (now (status .exit)) (now (log .exit)) (now (values .exit)) ⌝ }
 {
     let chunk = lesser(t.size, t.candidates);
     let meter = Meter {
@@ -120,8 +116,9 @@ pub fn run_calls(
     t: Tally,
     limits: Limits,
 ) -> Report
-    requires { ⌜ Formula (length (now status)) (now entries) (now starts) × (length (now values) ≡ length (now status)) × Allowed limits × At (task (now entries) (length (now status)) limits) t (now first) (now status) (now log) ⌝ }
-    ensures { λ r. ⌜ ((w : At (task (now (entries .entry)) (length (now (status .entry))) limits) t (now (first .entry)) (now (status .entry)) (now (log .entry))) → EndsAt (length (now (status .entry))) (chunks (task (now (entries .entry)) (length (now (status .entry))) limits) (t .size) (w .progress)) r (now (status .exit)) (now (log .exit))) ⌝ }
+    requires { ⌜ CallsOver (now entries) (now starts) (now first) (now status) (now log) (now values) t limits ⌝ }
+    ensures { λ r. ⌜ EndsFrom (now (entries .entry)) limits t (now (first .entry)) (now (status .entry)) (now (log .entry))
+        r (now (status .exit)) (now (log .exit)) ⌝ }
 {
     let mut tally = t;
     while 0 < tally.candidates {

@@ -1,7 +1,6 @@
 -- Signed numbers as the machine holds them: a signed local holds bits, so that a goal has `toZ w32 (ofZ w32 z)`, which is z where z
 -- fits; and what the crossings of a literal compute.
 --
---   toZ-ofZ-at                    the bits of z read back, with z written out
 --   of-literal                    what a test says of the bits read back, it says of z
 --   fits-of-var                   a literal of a small variable fits
 --   isPositive-of-le, isNegative-of-lt, isPositive-of-not-lt     what a test against 0 says
@@ -21,16 +20,12 @@ use lib.Signed.{mag, ltZ, leZ, nonNeg}
 use borrow.Author.Tests.{le-ltb, le-leb}
 use mir.Syntax.{w32}
 use mir.Val.{Fits, SFits, toZ, ofZ}
-use mir.Facts.{toZ-ofZ}
 use Rattle.rules.specs.Meaning.{varOf, negated}
 use Rattle.rules.proofs.ListLaws.{never}
+use Rattle.rules.proofs.BitLaws.{toZ-ofZ-at}
 use Rattle.formula.specs.Literals.{isPositive, HasNegation}
 
 -- ---- bits read back
-
--- `toZ-ofZ` leaves its implicit arguments open under `+ℤ`
-pub toZ-ofZ-at : (z : ℤ) → SFits w32 z → toZ w32 (ofZ w32 z) ≡ z
-toZ-ofZ-at z f = toZ-ofZ f
 
 -- a test of what was read is one of the number itself
 pub of-literal : (p : ℤ → Bool) (z : ℤ) → SFits w32 z → {b : Bool} → b ≡ p (toZ w32 (ofZ w32 z)) → p z ≡ b
@@ -113,7 +108,7 @@ magnitude-negative (negsuc n) f e =
 
 pub cast-positive : (z : ℤ) → SFits w32 z → ltZ (toZ w32 (ofZ w32 z)) (pos 0) ≡ false
     → T (nonNeg (toZ w32 (ofZ w32 z))) × Fits w32 (natAbs (toZ w32 (ofZ w32 z)))
-cast-positive (pos n) f e = rw (toZ-ofZ f) (tt, record { fits = omega (arith, f .sfits) })
+cast-positive (pos n) f e = rw (toZ-ofZ-at (pos n) f) (tt, record { fits = omega (arith, f .sfits) })
 cast-positive (negsuc n) f e = absurd (never (ap (λ (y : ℤ). ltZ y (pos 0)) (toZ-ofZ-at (negsuc n) f)) e)
 
 -- ---- the negation

@@ -151,7 +151,8 @@ scan-done es before now n i h w =
     let c : n ≡ length (clauses es) = omega (arith, rw d at (w .counted)) in
     record {
       count-is = c;
-      starts-are = rw (← c) (sym (take-append-drop (suc n) now) ∙ both (sym (append-nil (take (suc n) now)) ∙ rw d at (w .written)) (w .rest ∙ drop-set-lt (suc n) before 0 0 (omega arith)));
+      starts-are = rw (← c) (sym (take-append-drop (suc n) now)
+          ∙ both (sym (append-nil (take (suc n) now)) ∙ rw d at (w .written)) (w .rest ∙ drop-set-lt (suc n) before 0 0 (omega arith)));
     }
   where
     both : {xs ys us vs : List ℕ} → xs ≡ us → ys ≡ vs → xs ++ ys ≡ us ++ vs

@@ -13,7 +13,6 @@ use mathlib.Core.Logic.{_≢_}
 use mathlib.Core.Bool.{Bool, true, false, not, _&&_, _||_}
 use mathlib.Core.List.{List, [], _∷_}
 use Prim.Native.Nat.{ℕ, _+_, _<_, _≤_}
-use native.Mathlib.Omega.{arith}
 use native.Mathlib.Numerals.{add-one}
 use lib.IntN.{ℤ, pos}
 use lib.ListN.{getD, length, take, take-append-drop}
@@ -23,7 +22,7 @@ use Rattle.rules.specs.declared.ClauseState.the-variants.{False, True}
 use Rattle.rules.specs.Lists.{any, all, keep, keepIf, eqz}
 use Rattle.rules.specs.Meaning.{Clause, Values, isUnset, hasTrue}
 use Rattle.rules.specs.Closing.{literal, unitIf, stateBy, stateOf}
-use Rattle.rules.proofs.ListLaws.{never, any-append, keep-append, eqz-refl, eqz-complete, eqz-other}
+use Rattle.rules.proofs.ListLaws.{apart, never, any-append, keep-append, eqz-refl, eqz-complete, eqz-other}
 use Rattle.formula.specs.declared.unset.Found.the-variants.{Nothing, Literal}
 use Rattle.formula.specs.Clauses.{firstIn, firstUnset, isOtherUnset, hasOtherUnset}
 
@@ -85,7 +84,7 @@ module _ (vs : Values) (cl : Clause) where
     where
       go : (us : List ℤ) → firstIn us ≡ Nothing → stateBy false us ≡ False
       go [] e = refl
-      go (k ∷ us) e = absurd (let z : _≡_ {A = ℕ} 0 1 = cc in omega arith)
+      go (k ∷ us) e = apart cc
 
   pub stateOf-first : (l : Lit) → hasTrue vs cl ≡ false → firstUnset vs cl ≡ Literal l
       → stateOf vs cl ≡ unitIf (not (hasOtherUnset vs (l .0) cl)) (l .0)
@@ -93,5 +92,5 @@ module _ (vs : Values) (cl : Clause) where
   stateOf-first l n e = rw (n, other-same vs (l .0) cl) (go (keep (isUnset vs) cl) e)
     where
       go : (us : List ℤ) → firstIn us ≡ Literal l → stateBy false us ≡ unitIf (all (eqz (l .0)) us) (l .0)
-      go [] e = absurd (let z : _≡_ {A = ℕ} 0 1 = cc in omega arith)
+      go [] e = apart cc
       go (k ∷ us) e = let q : l ≡ literal k = cc in rw (q, eqz-refl k)

@@ -3,15 +3,13 @@
 --   saved-back                    of a saved copy, as many bytes as there are values are the values
 --   Chosen, chosen, choice-none   the variable that was chosen is the lowest unset one; or there is none
 --   not-no-model, not-model       an outcome by the tag of the arm that is left
---   ends-unique                   no second result meets the promise
---   undone, none-not-model        a call that found no model leaves the values
 --   copied-back, ends-taken-back  taking back
 --   ends-clash, ends-model, ends-first, ends-second     a call by what closing ends with and by the choice, and what it ends with
 --   ends-stopped, ends-set, ends-unset     a try by what the meter gives, and what it ends with
 --   falls-closing, falls-set      the number of unset variables falls
 --
 -- Assumes nothing.
-use mathlib.Core.Path.{_≡_, refl, sym, _∙_, ap}
+use mathlib.Core.Path.{_≡_, refl, _∙_, ap}
 use mathlib.Core.Logic.{_≢_, ⊎-elim}
 use mathlib.Core.Bool.{Bool, true, false}
 use mathlib.Core.List.{List, [], _∷_, _++_, append-nil}
@@ -20,7 +18,6 @@ use Prim.Native.Nat.{ℕ, zero, suc, pred, _+_, _<_, _≤_}
 use native.Mathlib.Omega.{arith}
 use native.Mathlib.Numerals.{add-one}
 use lib.Dec.{ltb}
-use lib.IntN.{ℤ}
 use lib.ListN.{set, length, take, drop}
 use lib.Seq.{take-length, drop-length, take-append-seam, set-set, set-getD}
 use types.Run.{OneOf}
@@ -31,18 +28,20 @@ use Rattle.rules.specs.declared.Outcome.{Outcome}
 use Rattle.rules.specs.declared.Outcome.the-variants.{Model, NoModel, Stopped}
 use Rattle.rules.specs.Meaning.{Clause, Values, valueAt}
 use Rattle.rules.specs.Closing.{Closed, clash, closed, closing, unsets}
-use Rattle.rules.specs.Search.{Call, model, no-model, stopped, outcomeOf, triesOf, lowestUnset, ifLeft, try, orElse, choose, onClosed, callOn}
+use Rattle.rules.specs.Search.{Call, model, no-model, stopped, outcomeOf, lowestUnset, ifLeft, try, orElse, choose, onClosed, callOn}
+use Rattle.rules.proofs.ListLaws.{apart}
 use Rattle.rules.proofs.MeaningLaws.{unsets-set}
 use Rattle.rules.proofs.ClosingLaws.{Settled, closing-ends}
 use Rattle.rules.proofs.CallLaws.{Lowest, lowestUnset-sound, callOn-next}
 use Rattle.formula.specs.Literals.{byteOf}
 use Rattle.search.specs.declared.values.Choice.the-variants.{AllSet, Unset}
 use Rattle.search.specs.declared.meter.Meter.{Meter}
-use Rattle.search.specs.declared.meter.Taken.the-variants.{Try, Spent}
+use Rattle.search.specs.declared.meter.Asked.the-variants.{Given, Spent}
 use Rattle.search.specs.declared.call.CallEnd.{CallEnd}
 use Rattle.search.specs.Choices.{VarUpTo, choiceOf}
-use Rattle.search.specs.Meters.{takenIf, takenOf}
+use Rattle.search.specs.Meters.{askedIf, askedOf}
 use Rattle.search.specs.Calls.{valuesAfter, CallEnds, unlessModel}
+use Rattle.search.proofs.EndLaws.{undone, none-not-model, was-none}
 
 -- ---- a saved copy
 
@@ -76,7 +75,7 @@ chosen vs v e = go (lowestUnset vs) refl (lowestUnset-sound vs) e
         }
 
     go : (o : Option ℕ) → lowestUnset vs ≡ o → Lowest vs o → choiceOf o ≡ Unset v → Chosen vs (v .0)
-    go none l h e = let z : _≡_ {A = ℕ} 0 1 = cc in absurd (omega arith)
+    go none l h e = apart cc
     go (some i) l h e = at i (v .0) l (h .0) (cc)
 
 pub choice-none : (vs : Values) → choiceOf (lowestUnset vs) ≡ AllSet → lowestUnset vs ≡ none
@@ -84,46 +83,24 @@ choice-none vs = go (lowestUnset vs)
   where
     go : (o : Option ℕ) → choiceOf o ≡ AllSet → o ≡ none
     go none e = refl
-    go (some i) e = let z : _≡_ {A = ℕ} 0 1 = cc in absurd (omega arith)
+    go (some i) e = apart cc
 
 -- ---- outcomes by the tag of an arm
 
 pub not-no-model : (o : Outcome) → OneOf (0 ∷ 2 ∷ []) (tagOf (declared outcome.enum) o) → o ≢ NoModel
-not-no-model Model q e = let z : _≡_ {A = ℕ} 0 1 = cc in omega arith
+not-no-model Model q e = apart cc
 not-no-model NoModel q e = ⊎-elim (λ (e : _≡_ {A = ℕ} 1 0). omega arith) (λ (e : _≡_ {A = ℕ} 1 2). omega arith) q
-not-no-model Stopped q e = let z : _≡_ {A = ℕ} 0 1 = cc in omega arith
+not-no-model Stopped q e = apart cc
 
 pub not-model : (o : Outcome) → OneOf (1 ∷ 2 ∷ []) (tagOf (declared outcome.enum) o) → o ≢ Model
 not-model Model q e = ⊎-elim (λ (e : _≡_ {A = ℕ} 0 1). omega arith) (λ (e : _≡_ {A = ℕ} 0 2). omega arith) q
-not-model NoModel q e = let z : _≡_ {A = ℕ} 0 1 = cc in omega arith
-not-model Stopped q e = let z : _≡_ {A = ℕ} 0 1 = cc in omega arith
+not-model NoModel q e = apart cc
+not-model Stopped q e = apart cc
 
--- ---- what a call leaves
+-- ---- taking back
 
--- no second result, and no other values, meet the promise
-pub ends-unique : {c : Call} {vs : Values} {b : ℕ} {r s : CallEnd} {us ws : Values} → CallEnds c vs b r us → CallEnds c vs b s ws
-    → (r ≡ s) × (us ≡ ws)
-ends-unique p q = (
-  λ i. record {
-    outcome = (p .outcome-is ∙ sym (q .outcome-is)) i;
-    meter = record { budget = (p .budget-is ∙ sym (q .budget-is)) i; spent = (p .spent-is ∙ sym (q .spent-is)) i };
-  },
-  p .values-are ∙ sym (q .values-are),
-)
-
--- a call that found no model leaves the values
-pub undone : {c : Call} {vs : Values} {b : ℕ} {r : CallEnd} {us : Values} → CallEnds c vs b r us → r .outcome ≢ Model → us ≡ vs
-undone {c} {vs} {us} w h = go c (λ q. h (w .outcome-is ∙ q)) (w .values-are)
-  where
-    go : (c : Call) → outcomeOf c ≢ Model → us ≡ valuesAfter c vs → us ≡ vs
-    go (model k u) n v = absurd (n refl)
-    go (no-model u) n v = v
-    go (stopped u) n v = v
-
-pub none-not-model : {o : Outcome} → o ≡ NoModel → o ≢ Model
-none-not-model e q = let z : _≡_ {A = ℕ} 0 1 = cc in omega arith
-
-pub ends-taken-back : {c : Call} {ws : Values} {b : ℕ} {r : CallEnd} {us : Values} (vs after : Values) → CallEnds c ws b r us → after ≡ unlessModel (r .outcome) us vs → CallEnds c vs b r after
+pub ends-taken-back : {c : Call} {ws : Values} {b : ℕ} {r : CallEnd} {us : Values} (vs after : Values) → CallEnds c ws b r us
+    → after ≡ unlessModel (r .outcome) us vs → CallEnds c vs b r after
 ends-taken-back {c} {ws} {us} vs after w a =
     record {
       outcome-is = w .outcome-is;
@@ -174,7 +151,8 @@ module _ (m : Meter) (F : List Clause) (vs : Values) where
   pub ends-model : (ws : Values) → closing F vs ≡ closed ws → lowestUnset ws ≡ none → CallEnds call vs (m .budget) (ended Model m) ws
   ends-model ws e l = rw (by-choice ws e l) (record { outcome-is = refl; spent-is = refl; budget-is = refl; values-are = refl })
 
-  module _ (ws : Values) (i : ℕ) (e : closing F vs ≡ closed ws) (l : lowestUnset ws ≡ some i) (first : CallEnd) (us : Values) (w : CallEnds (tried ws i 1 (m .spent)) ws (m .budget) first us) where
+  module _ (ws : Values) (i : ℕ) (e : closing F vs ≡ closed ws) (l : lowestUnset ws ≡ some i) (first : CallEnd) (us : Values)
+      (w : CallEnds (tried ws i 1 (m .spent)) ws (m .budget) first us) where
     -- the first try found something, or was stopped
     call-first : first .outcome ≢ NoModel → call ≡ tried ws i 1 (m .spent)
     call-first h = by-choice ws e l ∙ go (tried ws i 1 (m .spent)) (λ q. h (w .outcome-is ∙ q))
@@ -186,12 +164,7 @@ module _ (m : Meter) (F : List Clause) (vs : Values) where
 
     -- it found nothing: the second one is the call, from the same values
     call-second : first .outcome ≡ NoModel → call ≡ tried ws i 2 (first .meter .spent)
-    call-second h = by-choice ws e l ∙ go (tried ws i 1 (m .spent)) (sym (w .outcome-is) ∙ h) (w .spent-is)
-      where
-        go : (c : Call) → outcomeOf c ≡ NoModel → first .meter .spent ≡ triesOf c → orElse c (λ u. tried ws i 2 u) ≡ tried ws i 2 (first .meter .spent)
-        go (model k u) q s = let z : _≡_ {A = ℕ} 0 1 = cc in absurd (omega arith)
-        go (no-model u) q s = rw s
-        go (stopped u) q s = let z : _≡_ {A = ℕ} 0 1 = cc in absurd (omega arith)
+    call-second h = by-choice ws e l ∙ ap (λ (c : Call). orElse c (λ u. tried ws i 2 u)) (was-none w h)
 
     pub ends-first : first .outcome ≢ NoModel → (after : Values) → after ≡ unlessModel (first .outcome) us vs
         → CallEnds call vs (m .budget) first after
@@ -215,24 +188,25 @@ module _ (m : Meter) (F : List Clause) (vs : Values) (i x : ℕ) where
   abbrev trying : Call
   trying = try (m .budget) (callOn (m .budget) F) vs i x (m .spent)
 
-  pub ends-stopped : takenOf m ≡ Spent → CallEnds trying vs (m .budget) (ended Stopped m) vs
+  pub ends-stopped : askedOf m ≡ Spent → CallEnds trying vs (m .budget) (ended Stopped m) vs
   ends-stopped e = go (ltb (m .spent) (m .budget)) e
     where
-      go : (b : Bool) → takenIf b m ≡ Spent → CallEnds (ifLeft b (callOn (m .budget) F) (set vs i x) (m .spent)) vs (m .budget) (ended Stopped m) vs
-      go true e = let z : _≡_ {A = ℕ} 0 1 = cc in absurd (omega arith)
+      go : (b : Bool) → askedIf b m ≡ Spent → CallEnds (ifLeft b (callOn (m .budget) F) (set vs i x) (m .spent)) vs (m .budget) (ended Stopped m) vs
+      go true e = apart cc
       go false e = record { outcome-is = refl; spent-is = refl; budget-is = refl; values-are = refl }
 
-  module _ (left : Meter) (e : takenOf m ≡ Try left) (r : CallEnd) (us : Values) (w : CallEnds (callOn (left .budget) F (set vs i x) (left .spent)) (set vs i x) (left .budget) r us) where
+  module _ (left : Meter) (e : askedOf m ≡ Given left) (r : CallEnd) (us : Values)
+      (w : CallEnds (callOn (left .budget) F (set vs i x) (left .spent)) (set vs i x) (left .budget) r us) where
     -- a try was taken: the call from the values with the variable set
     paid : CallEnds trying (set vs i x) (m .budget) r us
     paid = go (ltb (m .spent) (m .budget)) e
       where
-        go : (b : Bool) → takenIf b m ≡ Try left → CallEnds (ifLeft b (callOn (m .budget) F) (set vs i x) (m .spent)) (set vs i x) (m .budget) r us
+        go : (b : Bool) → askedIf b m ≡ Given left → CallEnds (ifLeft b (callOn (m .budget) F) (set vs i x) (m .spent)) (set vs i x) (m .budget) r us
         go true e =
             let p : m .budget ≡ left .budget = cc in
             let q : m .spent + 1 ≡ left .spent = cc in
             rw (← add-one (m .spent), q, p) w
-        go false e = let z : _≡_ {A = ℕ} 0 1 = cc in absurd (omega arith)
+        go false e = apart cc
 
     pub ends-set : r .outcome ≡ Model → CallEnds trying vs (m .budget) r us
     ends-set h = ends-taken-back vs us paid (rw h)

@@ -2,4 +2,5 @@
 pub mod ValueLaws
 pub mod RoundLaws
 pub mod CloseLaws
+pub mod EndLaws
 pub mod CallLaws

@@ -19,14 +19,11 @@ use Rattle.rules.specs.declared.ClauseState.the-variants.{False, Unit, True, Un
 use Rattle.rules.specs.Meaning.{Clause, Values, LitUpTo, indexOf, trueByte, assign}
 use Rattle.rules.specs.Closing.{stateOf, under-way, at-false, met, round}
 use Rattle.rules.proofs.StateLaws.{Means, means}
+use Rattle.rules.proofs.ClosingLaws.{round-at-false}
 use Rattle.formula.specs.Clauses.{ClauseUpTo}
 
 pub unit-up-to : (n : ℕ) (vs : Values) (cl : Clause) (l : Lit) → ClauseUpTo n cl → stateOf vs cl ≡ Unit l → LitUpTo n (l .0)
 unit-up-to n vs cl l u e = let m : Means vs cl (Unit l) = rw e at (means vs cl) in u .each (l .0) (m .is-in)
-
-round-at-false : (cls : List Clause) → round cls at-false ≡ at-false
-round-at-false [] = refl
-round-at-false (cl ∷ cls) = round-at-false cls
 
 pub record Rounding (F : List Clause) (from : Values) (n : ℕ) (vs : Values) (k : ℕ) : Type 0 where
   pub passed : n ≤ length F
@@ -37,7 +34,8 @@ pub record Rounding (F : List Clause) (from : Values) (n : ℕ) (vs : Values) (k
 pub rounding-start : (F : List Clause) (from : Values) → Rounding F from 0 from 0
 rounding-start F from = record { passed = omega arith; few = omega arith; len = refl; same = refl }
 
-module _ (F : List Clause) (from : Values) (n : ℕ) (vs : Values) (k : ℕ) (cl : Clause) (h : n < length F) (here : getD F n [] ≡ cl) (w : Rounding F from n vs k) where
+module _ (F : List Clause) (from : Values) (n : ℕ) (vs : Values) (k : ℕ) (cl : Clause) (h : n < length F) (here : getD F n [] ≡ cl)
+    (w : Rounding F from n vs k) where
   visited : {s : ClauseState} → stateOf vs cl ≡ s → round (drop (suc n) F) (met s vs k) ≡ round F (under-way from 0)
   visited e =
       let d : drop n F ≡ cl ∷ drop (suc n) F = drop-cons F n [] h ∙ ap (λ (c : Clause). c ∷ drop (suc n) F) here in

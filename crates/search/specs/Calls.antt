@@ -8,6 +8,7 @@ use lib.ListN.{length}
 use Rattle.rules.specs.declared.Outcome.{Outcome}
 use Rattle.rules.specs.Meaning.{Clause, Values, valueAt}
 use Rattle.rules.specs.Search.{Call, model, no-model, stopped, outcomeOf, triesOf, try, callOn}
+use Rattle.formula.specs.Starts.{callClauses}
 use Rattle.formula.specs.Literals.{byteOf}
 use Rattle.search.specs.declared.meter.Meter.{Meter}
 use Rattle.search.specs.declared.call.CallEnd.{CallEnd}
@@ -37,14 +38,15 @@ pub record CallEnds (c : Call) (vs : Values) (budget : ℕ) (result : CallEnd) (
   pub budget-is : result .meter .budget ≡ budget
   pub values-are : after ≡ valuesAfter c vs
 
--- a call on the clauses F from vs, with the meter m
-abbrev pub Calls : List Clause → Values → Meter → CallEnd → Values → Type 0
-Calls F vs m result after = CallEnds (callOn (m .budget) F vs (m .spent)) vs (m .budget) result after
+-- a call on the first `total` clauses from vs, with the meter m
+abbrev pub Calls : List ℤ → Clause → ℕ → Values → Meter → CallEnd → Values → Type 0
+Calls es con total vs m result after =
+    CallEnds (callOn (m .budget) (callClauses es con total) vs (m .spent)) vs (m .budget) result after
 
 -- a try of the value x for variable v, from which calls go on
-abbrev pub Tries : List Clause → Values → Meter → ℕ → Bool → CallEnd → Values → Type 0
-Tries F vs m v x result after =
-    CallEnds (try (m .budget) (callOn (m .budget) F) vs (pred v) (byteOf x) (m .spent)) vs (m .budget) result after
+abbrev pub Tries : List ℤ → Clause → ℕ → Values → Meter → ℕ → Bool → CallEnd → Values → Type 0
+Tries es con total vs m v x result after =
+    CallEnds (try (m .budget) (callOn (m .budget) (callClauses es con total)) vs (pred v) (byteOf x) (m .spent)) vs (m .budget) result after
 
 -- ---- taking back
 

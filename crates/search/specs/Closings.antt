@@ -1,10 +1,12 @@
 -- What closing requires, and its results read as those of the definition. Assumes nothing.
+use mathlib.Core.Path.{_≡_}
 use mathlib.Core.List.{List}
 use Prim.Native.Nat.{ℕ, suc, _≤_}
 use lib.IntN.{ℤ}
 use lib.ListN.{length}
 use Rattle.rules.specs.Meaning.{Clause, Values, clauses}
-use Rattle.rules.specs.Closing.{Round, under-way, at-false, Closed, clash, closed}
+use Rattle.rules.specs.Closing.{Round, under-way, at-false, round, Closed, clash, closed, closing}
+use Rattle.formula.specs.Starts.{callClauses}
 use Rattle.formula.specs.Clauses.{ClauseUpTo}
 use Rattle.formula.specs.Formula.{Formula}
 use Rattle.search.specs.declared.close.RoundEnd.{RoundEnd}
@@ -23,7 +25,15 @@ abbrev pub roundOf : RoundEnd → Values → Round
 roundOf AtFalse vs = at-false
 roundOf (UnderWay n) vs = under-way vs n
 
+-- a round over the first `total` clauses of a call, from vs, ended with r and left the values `after`
+abbrev pub RoundsTo : List ℤ → Clause → ℕ → Values → RoundEnd → Values → Type 0
+RoundsTo es con total vs r after = round (callClauses es con total) (under-way vs 0) ≡ roundOf r after
+
 -- a closing's end with the values that it leaves: after a clash they do not count
 abbrev pub closedOf : Closing → Values → Closed
 closedOf Clash vs = clash
 closedOf AllClosed vs = closed vs
+
+-- closing under them, from vs, ended with r and left the values `after`
+abbrev pub ClosesTo : List ℤ → Clause → ℕ → Values → Closing → Values → Type 0
+ClosesTo es con total vs r after = closing (callClauses es con total) vs ≡ closedOf r after

@@ -2,9 +2,9 @@
 // variables falls. The values are lent: a call leaves its model there, or else what it found when it came.
 use crate::close::Closing;
 use crate::close::close;
+use crate::meter::Asked;
 use crate::meter::Meter;
-use crate::meter::Taken;
-use crate::meter::take_try;
+use crate::meter::ask_try;
 use crate::values::Choice;
 use crate::values::lowest_unset;
 use crate::values::set_value;
@@ -15,7 +15,6 @@ use rules::Var;
 ghost use mathlib.Core.Path.{_≡_};
 ghost use Prim.Native.Nat.{_≤_};
 ghost use lib.ListN.{length, take};
-ghost use Rattle.formula.specs.Starts.{callClauses};
 ghost use Rattle.search.specs.Closings.{CallOver};
 ghost use Rattle.search.specs.Calls.{TryOver, Calls, Tries, unlessModel};
 
@@ -50,11 +49,11 @@ pub fn go_on<'a>(
     meter: Meter,
 ) -> CallEnd
     requires { ⌜ CallOver (length (now values)) (now entries) (now starts) (now constraint) total ⌝ }
-    ensures { λ r. ⌜ Calls (callClauses (now (entries .entry)) (now (constraint .entry)) total) (now (values .entry)) meter r (now (values .exit)) ⌝ }
+    ensures { λ r. ⌜ Calls (now (entries .entry)) (now (constraint .entry)) total (now (values .entry)) meter r (now (values .exit)) ⌝ }
 {
-    // The one copy of a level, for taking back: 256 bytes for up to 256 variables.
+    // The one copy of a level, for taking back.
     let n = values.len();
-    let mut saved = [0u8; 256];
+    let mut saved = [0u8; rules::MAX_VARS as usize];
     copy_first(values, &mut saved, n);
     if let Closing::Clash = close(entries, starts, constraint, total, values) {
         take_back(values, &saved, Outcome::NoModel);
@@ -96,9 +95,9 @@ pub fn try_value<'a>(
     value: bool,
 ) -> CallEnd
     requires { ⌜ TryOver (now values) (now entries) (now starts) (now constraint) total (v .0) ⌝ }
-    ensures { λ r. ⌜ Tries (callClauses (now (entries .entry)) (now (constraint .entry)) total) (now (values .entry)) meter (v .0) value r (now (values .exit)) ⌝ }
+    ensures { λ r. ⌜ Tries (now (entries .entry)) (now (constraint .entry)) total (now (values .entry)) meter (v .0) value r (now (values .exit)) ⌝ }
 {
-    let Taken::Try(left) = take_try(meter) else {
+    let Asked::Given(left) = ask_try(meter) else {
         return CallEnd {
             outcome: Outcome::Stopped,
             meter: meter,

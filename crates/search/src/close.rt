@@ -5,11 +5,8 @@ use formula::state::state_of;
 use formula::view::clause_in;
 use rules::ClauseNo;
 use rules::ClauseState;
-ghost use mathlib.Core.Path.{_≡_};
 ghost use lib.ListN.{length};
-ghost use Rattle.rules.specs.Closing.{under-way, round, closing};
-ghost use Rattle.formula.specs.Starts.{callClauses};
-ghost use Rattle.search.specs.Closings.{CallOver, roundOf, closedOf};
+ghost use Rattle.search.specs.Closings.{CallOver, RoundsTo, ClosesTo};
 
 // What a round ends with: a false clause, or the number of literals that it set.
 pub enum RoundEnd {
@@ -34,7 +31,7 @@ pub fn round<'a>(
     values: &mut [u8],
 ) -> RoundEnd
     requires { ⌜ CallOver (length (now values)) (now entries) (now starts) (now constraint) total ⌝ }
-    ensures { λ r. ⌜ round (callClauses (now (entries .entry)) (now (constraint .entry)) total) (under-way (now (values .entry)) 0) ≡ roundOf r (now (values .exit)) ⌝ }
+    ensures { λ r. ⌜ RoundsTo (now (entries .entry)) (now (constraint .entry)) total (now (values .entry)) r (now (values .exit)) ⌝ }
 {
     let mut set = 0;
     let mut n = 0;
@@ -56,7 +53,7 @@ pub fn round<'a>(
     RoundEnd::UnderWay(set)
 }
 
-// Rounds until one sets nothing, or meets a false clause. After a clash the values are somewhere between.
+// RoundsTo until one sets nothing, or meets a false clause. After a clash the values are somewhere between.
 // Rules out: a clash as closed; a set that is not closed.
 // Required of: go_on, which requires it too.
 pub fn close<'a>(
@@ -67,7 +64,7 @@ pub fn close<'a>(
     values: &mut [u8],
 ) -> Closing
     requires { ⌜ CallOver (length (now values)) (now entries) (now starts) (now constraint) total ⌝ }
-    ensures { λ r. ⌜ closing (callClauses (now (entries .entry)) (now (constraint .entry)) total) (now (values .entry)) ≡ closedOf r (now (values .exit)) ⌝ }
+    ensures { λ r. ⌜ ClosesTo (now (entries .entry)) (now (constraint .entry)) total (now (values .entry)) r (now (values .exit)) ⌝ }
 {
     loop {
         match round(entries, starts, constraint, total, values) {

@@ -1,7 +1,7 @@
 // One meter of tries serves the whole run, docs/RULES.md, "Budget". A try is taken from a meter that is lent; what is left of it is
 // computed by value.
 ghost use mathlib.Core.Path.{_≡_};
-ghost use Rattle.search.specs.Meters.{takenOf, afterTry};
+ghost use Rattle.search.specs.Meters.{askedOf, afterTry};
 
 // The budget, and how many tries are spent.
 pub struct Meter {
@@ -10,8 +10,8 @@ pub struct Meter {
 }
 
 // What a meter gives that is asked for a try.
-pub enum Taken {
-    Try(Meter),
+pub enum Asked {
+    Given(Meter),
     Spent,
 }
 
@@ -34,7 +34,7 @@ pub fn after_try(meter: Meter) -> Meter
 
 // Takes a try from a meter that is lent.
 // Rules out: a copy that is charged; two tries for one.
-pub fn take_a_try(meter: &mut Meter)
+pub fn charge(meter: &mut Meter)
     ensures { λ _. ⌜ now (meter .exit) ≡ afterTry (now (meter .entry)) ⌝ }
 {
     let after = after_try(*meter);
@@ -43,25 +43,25 @@ pub fn take_a_try(meter: &mut Meter)
 
 // A meter by value is lent for one try, and handed back.
 // Rules out: a meter as it was, with a try left; one spent over the budget.
-pub fn one_more(meter: Meter) -> Meter
+pub fn charged(meter: Meter) -> Meter
     ensures { λ r. ⌜ r ≡ afterTry meter ⌝ }
 {
     let mut lent = meter;
-    take_a_try(&mut lent);
+    charge(&mut lent);
     lent
 }
 
 // A try, unless the budget is spent.
 // Rules out: a try at the budget; a try that is not counted.
-pub fn take_try(meter: Meter) -> Taken
-    ensures { λ r. ⌜ r ≡ takenOf meter ⌝ }
+pub fn ask_try(meter: Meter) -> Asked
+    ensures { λ r. ⌜ r ≡ askedOf meter ⌝ }
 {
-    let after = one_more(meter);
+    let after = charged(meter);
     let spent = meter.spent;
     let spent_after = after.spent;
     if spent < spent_after {
-        Taken::Try(after)
+        Asked::Given(after)
     } else {
-        Taken::Spent
+        Asked::Spent
     }
 }

@@ -86,7 +86,8 @@ behind-head b zero zero m ss = ap (λ (ts : List ℕ). 0 ∷ ts) (forceFirst-non
 behind-head b zero (suc left) m ss = refl
 behind-head b (suc s) left m ss = refl
 
-behind-step : (n : ℕ) (m ss : List ℕ) (left : ℕ) → n < length m → n < length ss → behind (suc n) m (set ss n (statusForced (getD ss n 0) left (getD m n 0))) (leftForced (getD ss n 0) left) ≡ behind n m ss left
+behind-step : (n : ℕ) (m ss : List ℕ) (left : ℕ) → n < length m → n < length ss
+    → behind (suc n) m (set ss n (statusForced (getD ss n 0) left (getD m n 0))) (leftForced (getD ss n 0) left) ≡ behind n m ss left
 behind-step n [] ss left h k = absurd (omega arith)
 behind-step n (b ∷ m) [] left h k = absurd (omega arith)
 behind-step zero (b ∷ m) (s ∷ ss) left h k = behind-head b s left m ss
@@ -112,7 +113,8 @@ pub record Forcing (first before : List ℕ) (chunk left i : ℕ) (now : List �
 pub forcing-start : (first ss : List ℕ) (chunk : ℕ) → Forcing first ss chunk chunk 0 ss
 forcing-start first ss chunk = record { within = omega arith; len = refl; todo = refl }
 
-pub forcing-step : {first before now after : List ℕ} {chunk left r i : ℕ} → length first ≡ length before → Forcing first before chunk left i now → i < length now → ForcesAt i first left now r after → Forcing first before chunk r (i + 1) after
+pub forcing-step : {first before now after : List ℕ} {chunk left r i : ℕ} → length first ≡ length before → Forcing first before chunk left i now
+    → i < length now → ForcesAt i first left now r after → Forcing first before chunk r (i + 1) after
 forcing-step {first} {before} {now} {after} {chunk} {left} {r} {i} e w h f =
     let len : length after ≡ length now = ap length (f .status-is) ∙ length-set now i (statusForced (getD now i 0) left (getD first i 0)) in
     record {
@@ -121,6 +123,7 @@ forcing-step {first} {before} {now} {after} {chunk} {left} {r} {i} e w h f =
       todo = rw (add-one, f .status-is, f .left-is) (behind-step i first now left (omega (arith, w .len)) h ∙ w .todo);
     }
 
-pub forcing-done : {first before now : List ℕ} {chunk left i : ℕ} → length first ≡ length before → Forcing first before chunk left i now → length now ≤ i → now ≡ forceFirst first before chunk
+pub forcing-done : {first before now : List ℕ} {chunk left i : ℕ} → length first ≡ length before → Forcing first before chunk left i now
+    → length now ≤ i → now ≡ forceFirst first before chunk
 forcing-done {first} {before} {now} {chunk} {left} {i} e w h =
     sym (behind-done i first now left (omega (arith, w .len)) h) ∙ w .todo

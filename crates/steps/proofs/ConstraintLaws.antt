@@ -7,13 +7,13 @@
 -- Assumes nothing.
 use mathlib.Core.Path.{_≡_, refl, sym, _∙_, ap}
 use mathlib.Core.Logic.{_≢_}
-use mathlib.Core.List.{List, [], _∷_, _++_, map, append-assoc, append-nil}
-use Prim.Native.Nat.{ℕ, zero, suc, pred, _+_, _-_, _≤_, _<_, min}
+use mathlib.Core.List.{List, [], _∷_, _++_, append-nil}
+use Prim.Native.Nat.{ℕ, zero, suc, pred, _+_, _-_, _≤_, _<_}
 use native.Mathlib.Omega.{arith}
 use native.Mathlib.Numerals.{add-one}
-use lib.IntN.{ℤ, pos, negsuc}
-use lib.ListN.{length, getD, set, take, drop, length-set, length-take, length-map, length-append, drop-of-length-le}
-use lib.Seq.{drop-cons, take-suc-set, drop-set-lt, take-all, append-snoc}
+use lib.IntN.{ℤ, pos}
+use lib.ListN.{length, getD, set, take, drop, length-set, length-take, length-map, drop-of-length-le}
+use lib.Seq.{drop-cons, take-suc-set, drop-set-lt, append-snoc}
 use Rattle.rules.specs.Meaning.{varOf, negated}
 use Rattle.rules.specs.Run.{opens, literalAt, candidatesFrom, constraint}
 use Rattle.rules.proofs.StatusLaws.{length-candidates}
@@ -43,7 +43,8 @@ varOf-false i (suc (suc b)) = refl
 unfoldable pub from : ℕ → List ℕ → List ℕ → List ℤ
 from i first status = candidatesFrom i (drop i first) (drop i status)
 
-from-open : (i : ℕ) (first status : List ℕ) → i < length first → i < length status → getD status i 0 ≡ 0 → from i first status ≡ literalAt i (getD first i 0) ∷ from (suc i) first status
+from-open : (i : ℕ) (first status : List ℕ) → i < length first → i < length status → getD status i 0 ≡ 0
+    → from i first status ≡ literalAt i (getD first i 0) ∷ from (suc i) first status
 unfolding from
 from-open i first status h k z = rw (drop-cons first i 0 h, drop-cons status i 0 k, z)
 
@@ -51,7 +52,8 @@ from-settled : (i : ℕ) (first status : List ℕ) → i < length first → i < 
 unfolding from
 from-settled i first status h k n = rw (drop-cons first i 0 h, drop-cons status i 0 k) (skip (getD status i 0) n)
   where
-    skip : (s : ℕ) → s ≢ 0 → candidatesFrom i (getD first i 0 ∷ drop (suc i) first) (s ∷ drop (suc i) status) ≡ candidatesFrom (suc i) (drop (suc i) first) (drop (suc i) status)
+    skip : (s : ℕ) → s ≢ 0 → candidatesFrom i (getD first i 0 ∷ drop (suc i) first) (s ∷ drop (suc i) status)
+        ≡ candidatesFrom (suc i) (drop (suc i) first) (drop (suc i) status)
     skip zero n = absurd (n refl)
     skip (suc s) n = refl
 
@@ -70,9 +72,17 @@ putting-start first status chunk out =
     let e : chunk - 0 ≡ chunk = omega arith in
     record { within = omega arith; room = omega arith; len = refl; todo = ap (λ (n : ℕ). constraint (take n (candidatesFrom 0 first status))) e; rest = refl }
 
-pub putting-step : {first status : List ℕ} {chunk k i r : ℕ} {before now after : List ℤ} → length first ≡ length status → chunk ≤ length now → Putting first status chunk before k i now → i < length status → PutsAt i first status chunk k now r after → Putting first status chunk before r (i + 1) after
+pub putting-step : {first status : List ℕ} {chunk k i r : ℕ} {before now after : List ℤ} → length first ≡ length status → chunk ≤ length now
+    → Putting first status chunk before k i now → i < length status → PutsAt i first status chunk k now r after
+    → Putting first status chunk before r (i + 1) after
 putting-step {first} {status} {chunk} {k} {i} {r} {before} {now} {after} e c w h (candidate z l) =
-    record { within = omega arith; room = omega arith; len = length-set now k x ∙ w .len; todo = rw (add-one k, add-one i) (step ∙ w .todo); rest = drop-set-lt chunk now k x l ∙ w .rest }
+    record {
+      within = omega arith;
+      room = omega arith;
+      len = length-set now k x ∙ w .len;
+      todo = rw (add-one k, add-one i) (step ∙ w .todo);
+      rest = drop-set-lt chunk now k x l ∙ w .rest;
+    }
   where
     l₀ : ℤ
     l₀ = literalAt i (getD first i 0)
@@ -82,12 +92,14 @@ putting-step {first} {status} {chunk} {k} {i} {r} {before} {now} {after} e c w h
 
     left : constraint (take (chunk - k) (from i first status)) ≡ x ∷ constraint (take (chunk - suc k) (from (suc i) first status))
     left =
-        ap constraint (ap (take (chunk - k)) (from-open i first status (omega arith) h z) ∙ ap (λ (n : ℕ). take n (l₀ ∷ from (suc i) first status)) (more chunk k l))
+        ap constraint (ap (take (chunk - k)) (from-open i first status (omega arith) h z)
+        ∙ ap (λ (n : ℕ). take n (l₀ ∷ from (suc i) first status)) (more chunk k l))
       where
         more : (chunk k : ℕ) → k < chunk → chunk - k ≡ suc (chunk - suc k)
         more chunk k l = omega arith
 
-    step : take (suc k) (set now k x) ++ constraint (take (chunk - suc k) (from (suc i) first status)) ≡ take k now ++ constraint (take (chunk - k) (from i first status))
+    step : take (suc k) (set now k x) ++ constraint (take (chunk - suc k) (from (suc i) first status))
+        ≡ take k now ++ constraint (take (chunk - k) (from i first status))
     step =
         ap (λ (xs : List ℤ). xs ++ constraint (take (chunk - suc k) (from (suc i) first status))) (take-suc-set now k x (omega arith)) ∙
         append-snoc (take k now) x (constraint (take (chunk - suc k) (from (suc i) first status))) ∙
@@ -108,7 +120,8 @@ putting-step {first} {status} {chunk} {k} {i} {r} {before} {now} {after} e c w h
       rest = w .rest;
     }
 
-pub putting-done : {first status : List ℕ} {chunk k i : ℕ} {before now : List ℤ} → length first ≡ length status → chunk ≤ opens status → chunk ≤ length now → Putting first status chunk before k i now → length status ≤ i → ConstraintPut first status chunk before now
+pub putting-done : {first status : List ℕ} {chunk k i : ℕ} {before now : List ℤ} → length first ≡ length status → chunk ≤ opens status
+    → chunk ≤ length now → Putting first status chunk before k i now → length status ≤ i → ConstraintPut first status chunk before now
 unfolding from
 putting-done {first} {status} {chunk} {k} {i} {before} {now} e o c w h =
     record { front = rw (sym full-up) at put; rest = w .rest }
@@ -118,7 +131,8 @@ putting-done {first} {status} {chunk} {k} {i} {before} {now} e o c w h =
 
     put : take k now ≡ constraint (take chunk (candidatesFrom 0 first status))
     put =
-        sym (append-nil (take k now)) ∙ ap (λ (xs : List ℤ). take k now ++ constraint xs) (sym (take-nil′ (chunk - k)) ∙ ap (take (chunk - k)) (sym no-more)) ∙ w .todo
+        sym (append-nil (take k now)) ∙ ap (λ (xs : List ℤ). take k now ++ constraint xs)
+        (sym (take-nil′ (chunk - k)) ∙ ap (take (chunk - k)) (sym no-more)) ∙ w .todo
       where
         take-nil′ : (n : ℕ) → _≡_ {A = List ℤ} (take n []) []
         take-nil′ zero = refl
@@ -126,4 +140,12 @@ putting-done {first} {status} {chunk} {k} {i} {before} {now} e o c w h =
 
     full-up : chunk ≡ k
     full-up =
-        omega (arith, w .room, ap length put, length-take k now, length-map (take chunk (candidatesFrom 0 first status)) negated, length-take chunk (candidatesFrom 0 first status), length-candidates 0 first status e)
+        omega (
+          arith,
+          w .room,
+          ap length put,
+          length-take k now,
+          length-map (take chunk (candidatesFrom 0 first status)) negated,
+          length-take chunk (candidatesFrom 0 first status),
+          length-candidates 0 first status e,
+        )

@@ -16,7 +16,7 @@ use native.Mathlib.Numerals.{add-one}
 use lib.Dec.{eqb}
 use lib.ListN.{length, getD, set, length-set}
 use lib.Seq.{set-getD}
-use Rattle.rules.specs.Run.{opens, isOpen, freedIf, freedFrom, differs}
+use Rattle.rules.specs.Run.{opens, freedIf, freedFrom, differs}
 use Rattle.rules.proofs.ListLaws.{getD-default}
 use Rattle.steps.specs.Filter.{DropsAt, Drops}
 
@@ -73,7 +73,8 @@ pub record Filtering (p : ℕ → Bool) (before : List ℕ) (dropped i : ℕ) (n
 pub filtering-start : (p : ℕ → Bool) (ss : List ℕ) → Filtering p ss 0 0 ss
 filtering-start p ss = record { within = omega arith; len = refl; left = refl; counted = omega arith }
 
-pub filtering-step : {p : ℕ → Bool} {before now after : List ℕ} {dropped i r : ℕ} (b : Bool) → Filtering p before dropped i now → i < length now → p i ≡ b → DropsAt i b now r after → Filtering p before (dropped + r) (i + 1) after
+pub filtering-step : {p : ℕ → Bool} {before now after : List ℕ} {dropped i r : ℕ} (b : Bool) → Filtering p before dropped i now → i < length now
+    → p i ≡ b → DropsAt i b now r after → Filtering p before (dropped + r) (i + 1) after
 filtering-step {p} {before} {now} {after} {dropped} {i} b w h e d =
     let len : length after ≡ length now = ap length (d .freed) ∙ length-set now i (freedIf b (getD now i 0)) in
     record {

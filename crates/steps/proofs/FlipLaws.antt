@@ -9,21 +9,19 @@
 -- Assumes nothing.
 use mathlib.Core.Path.{_≡_, refl, sym, _∙_, ap}
 use mathlib.Core.Logic.{_≢_}
-use mathlib.Core.Bool.{Bool, true, false}
-use mathlib.Core.List.{List, [], _∷_, _++_}
+use mathlib.Core.Bool.{Bool}
+use mathlib.Core.List.{List}
 use Prim.Native.Nat.{ℕ, zero, suc, pred, _+_, _≤_, _<_}
 use native.Mathlib.Omega.{arith}
 use native.Mathlib.Numerals.{add-one}
-use lib.IntN.{ℤ}
-use lib.ListN.{length, getD, set, take}
-use lib.Seq.{take-suc, take-all, set-set, set-getD}
-use Rattle.rules.specs.Lists.{In}
-use Rattle.rules.specs.Meaning.{Clause, Values, hasTrue, satisfies}
+use lib.ListN.{length, getD, set}
+use lib.Seq.{set-set, set-getD}
+use Rattle.rules.specs.Meaning.{Clause, Values, satisfies}
 use Rattle.rules.specs.Run.{otherByte, flipped, canFlip}
 use Rattle.steps.specs.Filter.{DropsAt}
 use Rattle.steps.specs.Flip.{CanFlip, FlipsAt, Flips}
 use Rattle.steps.proofs.FilterLaws.{drops-closed, Filtering, filtering-start, filtering-step, filtering-done}
-use Rattle.rules.proofs.ListLaws.{never, not-true, in-getD, getD-default, all-sound, all-append-of}
+use Rattle.rules.proofs.ListLaws.{getD-default}
 
 -- ---- a flip
 
@@ -36,7 +34,8 @@ pub taken-back : (vs : Values) (i b : ℕ) → set (set vs i b) i (getD vs i 0) 
 taken-back vs i b = set-set vs i b (getD vs i 0) ∙ set-getD vs i 0
 
 -- `byte` is the variable's, and `other` the other one
-pub canFlip-is : {F : List Clause} {m : Values} {v at other : ℕ} {r : Bool} → at + 1 ≡ v → at < length m → other ≡ otherByte (getD m at 0) → r ≡ satisfies (set m at other) F → CanFlip F v m r (set (set m at other) at (getD m at 0))
+pub canFlip-is : {F : List Clause} {m : Values} {v at other : ℕ} {r : Bool} → at + 1 ≡ v → at < length m → other ≡ otherByte (getD m at 0)
+    → r ≡ satisfies (set m at other) F → CanFlip F v m r (set (set m at other) at (getD m at 0))
 canFlip-is {F} {m} {v} {at} {other} {r} e h o s =
     record { result-is = s ∙ ap (λ (w : Values). satisfies w F) (same ∙ ap (flipped m) index); model-same = taken-back m at other }
   where
@@ -48,7 +47,8 @@ canFlip-is {F} {m} {v} {at} {other} {r} e h o s =
 
 -- ---- one index
 
-pub flips-open : {F : List Clause} {i d : ℕ} {m m′ : Values} {r : Bool} {ss ts : List ℕ} → CanFlip F (i + 1) m r m′ → DropsAt i r ss d ts → FlipsAt F i m ss d m′ ts
+pub flips-open : {F : List Clause} {i d : ℕ} {m m′ : Values} {r : Bool} {ss ts : List ℕ} → CanFlip F (i + 1) m r m′ → DropsAt i r ss d ts
+    → FlipsAt F i m ss d m′ ts
 flips-open {F} {i} {d} {m} {m′} {r} {ss} {ts} c w =
     let e : r ≡ canFlip F m i = c .result-is ∙ ap (canFlip F m) (ap pred (add-one i)) in
     record { drops = rw e at w; model-same = c .model-same }
@@ -65,12 +65,14 @@ pub record Flipping (F : List Clause) (m₀ : Values) (before : List ℕ) (dropp
 pub flipping-start : (F : List Clause) (m : Values) (ss : List ℕ) → Flipping F m ss 0 0 m ss
 flipping-start F m ss = record { model-same = refl; filtering = filtering-start (canFlip F m) ss }
 
-pub flipping-step : {F : List Clause} {m₀ m m′ : Values} {before now after : List ℕ} {dropped i r : ℕ} → Flipping F m₀ before dropped i m now → i < length now → FlipsAt F i m now r m′ after → Flipping F m₀ before (dropped + r) (i + 1) m′ after
+pub flipping-step : {F : List Clause} {m₀ m m′ : Values} {before now after : List ℕ} {dropped i r : ℕ} → Flipping F m₀ before dropped i m now
+    → i < length now → FlipsAt F i m now r m′ after → Flipping F m₀ before (dropped + r) (i + 1) m′ after
 flipping-step {F} {m₀} {m} {i = i} w h f =
     record {
       model-same = f .model-same ∙ w .model-same;
       filtering = filtering-step (canFlip F m i) (w .filtering) h (ap (λ (v : Values). canFlip F v i) (sym (w .model-same))) (f .drops);
     }
 
-pub flipping-done : {F : List Clause} {m₀ m : Values} {before now : List ℕ} {dropped i : ℕ} → Flipping F m₀ before dropped i m now → length now ≤ i → Flips F m₀ before dropped m now
+pub flipping-done : {F : List Clause} {m₀ m : Values} {before now : List ℕ} {dropped i : ℕ} → Flipping F m₀ before dropped i m now → length now ≤ i
+    → Flips F m₀ before dropped m now
 flipping-done w h = record { drops = filtering-done (w .filtering) h; model-same = w .model-same }

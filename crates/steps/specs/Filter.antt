@@ -1,8 +1,8 @@
 -- What compare and flip do to the statuses: they free candidates that pass a test, and answer how many. Assumes nothing.
 use mathlib.Core.Path.{_≡_}
 use mathlib.Core.Bool.{Bool}
-use mathlib.Core.List.{List, [], _∷_}
-use Prim.Native.Nat.{ℕ, zero, suc, _+_}
+use mathlib.Core.List.{List}
+use Prim.Native.Nat.{ℕ, _+_}
 use lib.ListN.{getD, set}
 use Rattle.rules.specs.Run.{opens, freedIf, freedFrom}
 

@@ -3,3 +3,4 @@ pub mod Filter
 pub mod Chunk
 pub mod Flip
 pub mod Constraint
+pub mod Row

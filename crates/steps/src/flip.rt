@@ -3,11 +3,10 @@
 use formula::first_false::FirstFalse;
 use formula::first_false::first_false;
 ghost use mathlib.Core.Path.{_≡_};
-ghost use Prim.Native.Nat.{_+_, _≤_, _<_};
+ghost use Prim.Native.Nat.{_≤_, _<_};
 ghost use lib.ListN.{length};
 ghost use Rattle.rules.specs.Meaning.{satisfies, clauses};
-ghost use Rattle.rules.specs.Run.{canFlip, otherByte};
-ghost use Rattle.steps.specs.Filter.{DropsAt, Drops};
+ghost use Rattle.rules.specs.Run.{otherByte};
 ghost use Rattle.formula.specs.Formula.{Formula};
 ghost use Rattle.steps.specs.Flip.{Flips, FlipsAt, CanFlip};
 

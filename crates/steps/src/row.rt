@@ -1,10 +1,8 @@
 // The rows of the log (docs/RULES.md, "What comes back").
 ghost use mathlib.Core.Path.{_≡_};
-ghost use mathlib.Core.List.{[], _∷_};
-ghost use Prim.Native.Nat.{_+_, _-_, _*_, _≤_};
+ghost use Prim.Native.Nat.{_+_, _*_, _≤_};
 ghost use lib.ListN.{length};
-ghost use lib.Seq.{sets};
-ghost use Rattle.rules.specs.Numbers.{outcomeNumber};
+ghost use Rattle.steps.specs.Row.{withRow};
 
 // What a row says of a call: what it ended with, the chunk taken, what compare and flip dropped, and the tries spent by then.
 pub struct Row {
@@ -20,7 +18,7 @@ pub struct Row {
 // Required of: after_model, after_none and row_only of calls::after, which require it too.
 pub fn put_row(log: &mut [u32], calls: u32, tries: u32, row: Row)
     requires { ⌜ (6 * (calls + 1) ≤ length (now log)) × (tries ≤ row .spent) × (calls ≤ 256) ⌝ }
-    ensures { λ _. ⌜ now (log .exit) ≡ sets (now (log .entry)) (6 * calls) ((calls + 1) ∷ outcomeNumber (row .outcome) ∷ row .chunk ∷ row .«by_compare» ∷ row .«by_flip» ∷ (row .spent - tries) ∷ []) ⌝ }
+    ensures { λ _. ⌜ now (log .exit) ≡ withRow (now (log .entry)) calls tries row ⌝ }
 {
     let at = 6 * calls as usize;
     let outcome = row.outcome;

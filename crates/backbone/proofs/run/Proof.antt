@@ -1,6 +1,5 @@
 -- `run` meets its contract: what is refused writes nothing; what is accepted writes the fronts of both buffers. Assumes nothing.
 use mathlib.Core.Path.{_≡_, sym, _∙_}
-use native.Mathlib.Omega.{arith}
 use borrow.Author.Needs.{needs}
 use Rattle.rules.specs.Answer.{Given, given, refusalOf}
 use Rattle.rules.specs.RunRefusals.{Accepted}
@@ -66,7 +65,13 @@ accepted-run-requires c κs =
     let g = the-given (start told) in
     let lent = open-run told .listed .lent in
     let same-len = sym (front-len _ _ (lent .in-limits .vars-fit)) ∙ front-len _ _ (lent .status-fits) in
-    (is-formula g (said told), clauses-most g (said told), same-len, log-len g (said told), allowed g (said told))
+    record {
+      formula = is-formula g (said told);
+      clauses-most = clauses-most g (said told);
+      first-len = same-len;
+      log-len = log-len g (said told);
+      allowed = allowed g (said told);
+    }
 
 same-length : tie.Need-same-length
 same-length c = search needs
@@ -90,7 +95,7 @@ returns-2 : tie.Need-returns-2
 returns-2 c =
     let ran = c .before .before .before .before .before in
     let told = ran .before .before .before .before in
-    runs-accepted (the-given (start told)) (said told) (ran .accepted-run .ensures .0)
+    runs-accepted (the-given (start told)) (said told) (ran .accepted-run .ensures .done)
 
 pub run-spec : {M : Type 1} → statement M
 run-spec =

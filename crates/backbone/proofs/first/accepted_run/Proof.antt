@@ -41,7 +41,7 @@ slice-aggregate-room-for-values : tie.Need-slice-aggregate-room-for-values
 slice-aggregate-room-for-values c =
     let found = c .before .before in
     let s = start (bytes (numbers found)) in
-    front-len _ _ (omega (arith, found .find-starts .ensures .count-is, s .pre .1, found .find-starts .kept .1 .0))
+    front-len _ _ (omega (arith, found .find-starts .ensures .count-is, s .pre .clauses-most, found .find-starts .kept .1 .0))
 
 room-for-values-requires : tie.Need-room-for-values-requires
 room-for-values-requires c κs =
@@ -49,12 +49,14 @@ room-for-values-requires c κs =
     let numbers = numbers found in
     let bytes = bytes numbers in
     let s = start bytes in
-    let len = bytes .clear-bytes .kept .0 in (
-      rw len (found-formula (s .pre .0) (found .find-starts .ensures)),
-      rw len (s .pre .2),
-      cleared (s .args .status .now) (s .args .log .now) (s .pre .3) len (bytes .clear-bytes .ensures) (numbers .clear-numbers .ensures),
-      s .pre .4,
-    )
+    let len = bytes .clear-bytes .kept .0 in
+    record {
+      formula = rw len (found-formula (s .pre .formula) (found .find-starts .ensures));
+      first-len = rw len (s .pre .first-len);
+      cleared =
+          cleared (s .args .status .now) (s .args .log .now) (s .pre .log-len) len (bytes .clear-bytes .ensures) (numbers .clear-numbers .ensures);
+      allowed = s .pre .allowed;
+    }
 
 same-length : tie.Need-same-length
 same-length c = search needs

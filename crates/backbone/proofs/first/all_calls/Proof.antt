@@ -1,13 +1,12 @@
 -- `first::all_calls` meets its contract: the run, by what its first call ended with. Assumes nothing.
-use mathlib.Core.Path.{_≡_, refl, sym, _∙_, ap}
+use mathlib.Core.Path.{refl, _∙_}
 use borrow.Author.Needs.{needs}
 use lib.ListN.{length}
-use Rattle.rules.specs.Search.{Call}
 use Rattle.rules.specs.Run.{Task, blank, firstCall}
-use Rattle.search.specs.Calls.{CallEnds, valuesAfter}
+use Rattle.search.specs.Calls.{CallEnds}
 use Rattle.search.proofs.CallLaws.{not-model}
 use Rattle.calls.specs.Next.{task}
-use Rattle.calls.proofs.CallLaws.{ends-model}
+use Rattle.search.proofs.EndLaws.{was-model}
 use Rattle.backbone.proofs.FirstLaws.{row-begun, first-called, done-by-row}
 use Rattle.backbone.proofs.first.all_calls.Statement.{statement}
 use Rattle.backbone.proofs.first.all_calls.Tie as tie
@@ -26,12 +25,14 @@ the-task s = task (s .args .entries .now) (length (s .args .status .now)) (s .ar
 -- ---- the answers
 
 first-call-requires : tie.Need-first-call-requires
-first-call-requires c κs = let s = c .before .before .before .before .before .before in rw (s .pre .1) (s .pre .0)
+first-call-requires c κs = let s = c .before .before .before .before .before .before in rw (s .pre .values-len) (s .pre .begins .formula)
 
 -- the first call is the run's
 ended : (c : tie.After-first-call)
-    → CallEnds (firstCall (the-task (start c))) (blank (length (start c .args .values .now))) (start c .args .limits .budget) (c .first-call .result) (c .first-call .last .1 .1 .0)
-ended c = let s = start c in first-called (s .args .entries .now) (s .args .limits) (s .pre .1) (c .first-call .ensures)
+    → let s = start c in
+    CallEnds (firstCall (the-task s)) (blank (length (s .args .values .now))) (s .args .limits .budget) (c .first-call .result)
+    (c .first-call .last .1 .1 .0)
+ended c = let s = start c in first-called (s .args .entries .now) (s .args .limits) (s .pre .values-len) (c .first-call .ensures)
 
 enum-told : tie.Need-enum-told
 enum-told c = search needs
@@ -41,7 +42,11 @@ settle-requires c κs =
     let told = c .before .before .before .before in
     let call = called (told .before .before) in
     let p = start call .pre in
-    (p .0, call .first-call .kept .1 .1 .0 ∙ p .1, p .2, p .3, p .4, ends-model (ended call) (told .enum-told .given .1))
+    record {
+      begins = p .begins;
+      values-len = call .first-call .kept .1 .1 .0 ∙ p .values-len;
+      found = was-model (ended call) (told .enum-told .given .1);
+    }
 
 same-length : tie.Need-same-length
 same-length c = search needs
@@ -56,12 +61,7 @@ same-length-4 : tie.Need-same-length-4
 same-length-4 c = search needs
 
 returns : tie.Need-returns
-returns c =
-    let told = c .before .before .before .before .before .before .before .before .before .before .before .before .before in
-    let call = called (told .before .before) in
-    let s = start call in
-    let found = c .before .before .before .before .before .before .before .before .settle .ensures in
-    (found .0, found .1 ∙ ap (λ (d : Call). valuesAfter d (s .args .first .now)) (sym (ends-model (ended call) (told .enum-told .given .1))))
+returns c = c .before .before .before .before .before .before .before .before .settle .ensures
 
 cast-started : tie.Need-cast-started
 cast-started c = search needs
@@ -72,7 +72,7 @@ started-requires c κs = search needs
 row-only-requires : tie.Need-row-only-requires
 row-only-requires c κs =
     let s = start (called (c .before .before .before)) in
-    row-begun (s .pre .3) _ (c .started .ensures) _
+    row-begun (s .pre .begins .cleared) _ (c .started .ensures) _
 
 same-length-5 : tie.Need-same-length-5
 same-length-5 c = search needs
@@ -84,7 +84,7 @@ returns-2 : tie.Need-returns-2
 returns-2 c =
     let call = called (c .before .before .before .before .before .before) in
     let s = start call in
-    done-by-row (the-task s) _ (s .pre .3) (c .before .before .before .started .ensures) refl refl (ended call)
+    done-by-row (s .args .entries .now) (s .args .limits) _ (s .pre .begins .cleared) (c .before .before .before .started .ensures) refl (ended call)
     (not-model (call .first-call .result .outcome) (c .before .before .before .before .before .match .keys2)) (c .before .before .row-only .ensures)
 
 pub all-calls-spec : {M : Type 1} → statement M

@@ -1,8 +1,6 @@
 -- `first::first_call` meets its contract: the values are cleared, and the clauses are the formula's alone. Assumes nothing.
-use mathlib.Core.Path.{_≡_}
 use native.Mathlib.Omega.{arith}
 use borrow.Author.Needs.{needs}
-use Rattle.rules.specs.Run.{blank}
 use Rattle.formula.proofs.ClauseLaws.{length-starts, clauses-le}
 use Rattle.calls.proofs.CallLaws.{ends-same}
 use Rattle.backbone.proofs.FirstLaws.{first-over, first-clauses}

@@ -9,12 +9,12 @@ array-borrow-prefix-values : tie.Need-array-borrow-prefix-values
 array-borrow-prefix-values c = search needs
 
 slice-aggregate-all-calls : tie.Need-slice-aggregate-all-calls
-slice-aggregate-all-calls c = front-len _ _ (c .before .before .before .before .before .pre .0 .vars-fit)
+slice-aggregate-all-calls c = front-len _ _ (c .before .before .before .before .before .pre .formula .vars-fit)
 
 all-calls-requires : tie.Need-all-calls-requires
 all-calls-requires c κs =
     let p = c .before .before .before .before .before .before .before .before .pre in
-    (p .0, sym (front-len _ _ (p .0 .vars-fit)), p .1, p .2, p .3)
+    record { begins = p; values-len = sym (front-len _ _ (p .formula .vars-fit)) }
 
 same-length : tie.Need-same-length
 same-length c = search needs

@@ -4,9 +4,11 @@ use mathlib.Core.Path.{_≡_, refl, sym, _∙_, ap}
 use borrow.Author.Needs.{needs}
 use lib.ListN.{length}
 use Rattle.rules.specs.Meaning.{Values}
+use Rattle.rules.specs.Search.{Call}
 use Rattle.rules.specs.Run.{Task, begun, afterModel}
+use Rattle.search.specs.Calls.{valuesAfter}
 use Rattle.calls.specs.After.{Shows}
-use Rattle.calls.specs.Next.{At, task}
+use Rattle.calls.specs.Next.{task}
 use Rattle.calls.proofs.AfterLaws.{shows-model}
 use Rattle.backbone.proofs.FirstLaws.{copied-whole, shows-begun, room-begun, ready-begun, first-at, done-from-model}
 use Rattle.backbone.proofs.first.settle.Statement.{statement}
@@ -39,7 +41,7 @@ copy-first-requires c κs = search needs
 kept-model : (c : tie.After-copy-first) → c .copy-first .last .1 .0 ≡ the-model (start c)
 kept-model c =
     let s = start c in
-    copied-whole (s .args .values .now) (s .args .first .now) (s .pre .2 ∙ sym (s .pre .1)) (c .copy-first .ensures)
+    copied-whole (s .args .values .now) (s .args .first .now) (s .pre .begins .first-len ∙ sym (s .pre .values-len)) (c .copy-first .ensures)
 
 cast-started : tie.Need-cast-started
 cast-started c = search needs
@@ -52,8 +54,13 @@ after-model-requires c κs =
     let st = c .before .before .before .before in
     let co = copied st in
     let s = start co in
-    let ready = ready-begun (s .pre .3) _ (st .started .ensures) (ap length (kept-model co) ∙ s .pre .1) (s .pre .1) (s .pre .0 .vars-fit) _ in
-    (rw (s .pre .1) (s .pre .0), ready, s .pre .1)
+    let b = s .pre .begins in
+    let n = s .pre .values-len in
+    record {
+      formula = rw n (b .formula);
+      tally = ready-begun (b .cleared) _ (st .started .ensures) (ap length (kept-model co) ∙ n) n (b .formula .vars-fit) _;
+      model-len = n;
+    }
 
 -- where the run is after the first model
 there : (c : tie.After-after-model) → let s = start (copied (begins c)) in
@@ -66,20 +73,31 @@ there c =
     let s = start co in
     let k = the-task s in
     let m = the-model s in
-    shows-model k (begun k m) _ (shows-begun (s .pre .3) k m _ (st .started .ensures) refl (kept-model co) (s .pre .1)) (room-begun (s .pre .3) _ (st .started .ensures)) refl (c .after-model .ensures)
+    let z = s .pre .begins .cleared in
+    shows-model k (begun k m) _ (shows-begun z k m _ (st .started .ensures) refl (kept-model co) (s .pre .values-len))
+    (room-begun z _ (st .started .ensures)) refl (c .after-model .ensures)
 
 run-calls-requires : tie.Need-run-calls-requires
 run-calls-requires c κs =
     let am = c .before .before .before .before .before .before .before .before .before .before in
     let s = start (copied (begins am)) in
     let kept = am .after-model .kept in
-    rw (kept .1 .1 .1 .1 .0) (s .pre .0, kept .1 .1 .1 .0 ∙ s .pre .1, s .pre .4, first-at (the-task s) (the-model s) (s .args .spent) (s .pre .5) (there am))
+    let len = kept .1 .1 .1 .1 .0 in
+    record {
+      formula = rw len (s .pre .begins .formula);
+      values-len = kept .1 .1 .1 .0 ∙ s .pre .values-len ∙ sym len;
+      allowed = s .pre .begins .allowed;
+      here = rw len (first-at (the-task s) (the-model s) (s .args .spent) (s .pre .found) (there am));
+    }
 
 same-length : tie.Need-same-length
 same-length c = search needs
 
 same-length-2 : tie.Need-same-length-2
-same-length-2 c = c .before .before .before .before .before .before .before .before .before .before .before .before .before .before .before .before .before .before .before .before .before .before .before .before .before .copy-first .kept .1 .0
+same-length-2 c =
+    let ran = c .before .before .before .before .before .before in
+    let am = ran .before .before .before .before .before .before .before .before .before .before .before in
+    copied (begins am) .copy-first .kept .1 .0
 
 same-length-3 : tie.Need-same-length-3
 same-length-3 c = search needs
@@ -93,10 +111,13 @@ returns c =
     let am = ran .before .before .before .before .before .before .before .before .before .before .before in
     let s = start (copied (begins am)) in
     let k = the-task s in
-    let ends = rw (am .after-model .kept .1 .1 .1 .1 .0) at (ran .run-calls .ensures) in (
-      done-from-model k (the-model s) (s .args .spent) (s .pre .5) (there am .0) (ends (first-at k (the-model s) (s .args .spent) (s .pre .5) (there am))),
-      kept-model (copied (begins am)),
-    )
+    let m = the-model s in
+    let found = s .pre .found in
+    let ends = rw (am .after-model .kept .1 .1 .1 .1 .0) at (ran .run-calls .ensures) in
+    record {
+      done = done-from-model k m (s .args .spent) found (there am .0) (ends (first-at k m (s .args .spent) found (there am)));
+      first-is = kept-model (copied (begins am)) ∙ ap (λ (c : Call). valuesAfter c (s .args .first .now)) (sym found);
+    }
 
 pub settle-spec : {M : Type 1} → statement M
 settle-spec =

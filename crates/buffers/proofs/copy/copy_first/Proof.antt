@@ -37,7 +37,8 @@ loop-again c =
     let args = at-loop .before .args in
     let l = at-loop .loop in (
       search needs,
-      ap (λ (xs : List ℕ). set xs (l .done) (getD (args .from .now) (l .done) 0)) (l .inv .1) ∙ copied-more (args .from .now) (args .to .now) (l .done) (search needs) (search needs),
+      ap (λ (xs : List ℕ). set xs (l .done) (getD (args .from .now) (l .done) 0)) (l .inv .1)
+          ∙ copied-more (args .from .now) (args .to .now) (l .done) (search needs) (search needs),
       length-set (l .to) (l .done) (getD (args .from .now) (l .done) 0) ∙ l .inv .2,
     )
 

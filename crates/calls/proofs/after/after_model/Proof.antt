@@ -36,20 +36,29 @@ sub-t25 : tie.Need-sub-t25
 sub-t25 c = search needs
 
 add-t26 : tie.Need-add-t26
-add-t26 c = let s = c .before .before .before .before .before .before .before .before .before .before .before .before .before .before .before .before .before .before .before .before .before .before .before in omega (arith, s .pre .1 .row .calls-fit)
+add-t26 c =
+    let s = start (compared (c .before .before .before .before .before .before .before .before .before .before)) in
+    omega (arith, s .pre .tally .row .calls-fit)
 
 add-t27 : tie.Need-add-t27
 add-t27 c =
     let co = compared (flipped c) in
     let s = start co in
-    omega (arith, co .compare .ensures .counted, count-le isOpen (s .args .status .now), s .pre .1 .vars-fit, s .pre .1 .free-fit)
+    omega (arith, co .compare .ensures .counted, count-le isOpen (s .args .status .now), s .pre .tally .vars-fit, s .pre .tally .free-fit)
 
 add-t28 : tie.Need-add-t28
 add-t28 c =
     let fl = flipped c in
     let co = compared fl in
     let s = start co in
-    omega (arith, co .compare .ensures .counted, fl .flip .ensures .drops .counted, count-le isOpen (s .args .status .now), s .pre .1 .vars-fit, s .pre .1 .free-fit)
+    omega (
+      arith,
+      co .compare .ensures .counted,
+      fl .flip .ensures .drops .counted,
+      count-le isOpen (s .args .status .now),
+      s .pre .tally .vars-fit,
+      s .pre .tally .free-fit,
+    )
 
 same-length : tie.Need-same-length
 same-length c = search needs

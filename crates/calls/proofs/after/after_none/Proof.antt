@@ -24,7 +24,7 @@ add-t16 c = search needs
 add-t17 : tie.Need-add-t17
 add-t17 c =
     let s = c .before .before .before .before .before .before .before .before .before .before .before .before .before .before .before .before .before in
-    omega (arith, count-le isOpen (s .args .status .now), s .pre .0 .candidates-are, s .pre .0 .vars-fit, s .pre .0 .forced-fit, s .pre .1)
+    omega (arith, count-le isOpen (s .args .status .now), s .pre .tally .candidates-are, s .pre .tally .vars-fit, s .pre .tally .forced-fit, s .pre .chunk-most)
 
 same-length : tie.Need-same-length
 same-length c = search needs

@@ -34,12 +34,12 @@ slice-aggregate-put-constraint c = search needs
 
 -- a chunk has no more candidates than there are variables
 few : (c : tie.Start) → c .args .chunk ≤ 256
-few c = omega (arith, count-le isOpen (c .args .status .now), c .pre .0 .vars-fit, c .pre .2, c .pre .3)
+few c = omega (arith, count-le isOpen (c .args .status .now), c .pre .formula .vars-fit, c .pre .status-len, c .pre .chunk-most)
 
 put-constraint-requires : tie.Need-put-constraint-requires
 put-constraint-requires c κs =
     let s = c .before .before .before .before .before .before .before .before .before in
-    omega (arith, few s, s .pre .0 .vars-fit, s .pre)
+    omega (arith, few s, s .pre .formula .vars-fit, s .pre .first-len, s .pre .status-len, s .pre .chunk-most)
 
 room : (c : tie.After-put-constraint) → start c .args .chunk ≤ length (c .put-constraint .last .1 .1 .1 .0)
 room c = omega (arith, few (start c), c .put-constraint .kept)
@@ -51,7 +51,7 @@ start-is c = filled c .fill-start .ensures
 cast-total : tie.Need-cast-total
 cast-total c =
     let s = start (c .before) in
-    omega (arith, length-starts (s .pre .0), clauses-le (s .args .entries .now), s .pre .0 .starts-fit)
+    omega (arith, length-starts (s .pre .formula), clauses-le (s .args .entries .now), s .pre .formula .starts-fit)
 
 array-share-prefix-literals : tie.Need-array-share-prefix-literals
 array-share-prefix-literals c = room (c .before)
@@ -63,8 +63,8 @@ go-on-requires : tie.Need-go-on-requires
 go-on-requires c κs =
     let put = c .before .before .before in
     let s = start put in
-    chunk-over (s .pre .0) _ (ap length (start-is put) ∙ length-forcedValues (s .args .status .now) ∙ s .pre .2)
-    (rw (put .put-constraint .ensures .front, ← s .pre .2) (constraint-up-to (s .args .first .now) (s .args .status .now) (s .args .chunk)))
+    chunk-over (s .pre .formula) _ (ap length (start-is put) ∙ length-forcedValues (s .args .status .now) ∙ s .pre .status-len)
+    (rw (put .put-constraint .ensures .front, ← s .pre .status-len) (constraint-up-to (s .args .first .now) (s .args .status .now) (s .args .chunk)))
 
 same-length : tie.Need-same-length
 same-length c = search needs
@@ -76,7 +76,7 @@ returns c =
     let s = start put in
     let literals = take (s .args .chunk) (put .put-constraint .last .1 .1 .1 .0) in
     ends-same (s .args .meter .spent)
-    (chunk-clauses (s .pre .0) literals ∙ ap (λ (con : Clause). clauses (s .args .entries .now) ++ con ∷ []) (put .put-constraint .ensures .front))
+    (chunk-clauses (s .pre .formula) literals ∙ ap (λ (con : Clause). clauses (s .args .entries .now) ++ con ∷ []) (put .put-constraint .ensures .front))
     (start-is put) (go .go-on .ensures)
 
 pub chunk-call-spec : {M : Type 1} → statement M

@@ -34,16 +34,25 @@ chunk-call-requires : tie.Need-chunk-call-requires
 chunk-call-requires c κs =
     let l = c .before .before in
     let s = start l in
-    let p = s .pre in
-    let ready = tally-ready (p .2 .some) (p .0 .vars-fit) (p .3) (p .4) (record { chunk = 0; spent = s .args .t .tries }) (omega arith) in
-    (rw (p .1) (p .0), ready .len ∙ sym (p .1), sym (p .1), omega (arith, l .lesser .ensures, ready .candidates-are))
+    let o = s .pre .over in
+    let ready = tally-ready (o .allowed .some) (o .formula .vars-fit) (o .here) (s .pre .some) (record { chunk = 0; spent = s .args .t .tries })
+    (omega arith) in
+    record {
+      formula = rw (o .values-len) (o .formula);
+      first-len = ready .len ∙ sym (o .values-len);
+      status-len = sym (o .values-len);
+      chunk-most = omega (arith, l .lesser .ensures, ready .candidates-are);
+    }
 
 -- what is required behind the call
-ready : (c : tie.After-chunk-call) → let s = start (took c) in TallyReady (s .args .first .now) (s .args .status .now) (s .args .log .now) (s .args .t) (made c)
+ready : (c : tie.After-chunk-call)
+    → let s = start (took c) in TallyReady (s .args .first .now) (s .args .status .now) (s .args .log .now) (s .args .t) (made c)
 ready c =
     let s = start (took c) in
-    let p = s .pre in
-    tally-ready (p .2 .some) (p .0 .vars-fit) (p .3) (p .4) (made c) (call-up (s .args .entries .now) (s .args .first .now) (s .args .status .now) (took c .lesser .result) (meterOf (s .args .limits) (s .args .t)) (c .chunk-call .ensures))
+    let o = s .pre .over in
+    tally-ready (o .allowed .some) (o .formula .vars-fit) (o .here) (s .pre .some) (made c)
+    (call-up (s .args .entries .now) (s .args .first .now) (s .args .status .now) (took c .lesser .result) (meterOf (s .args .limits) (s .args .t))
+    (c .chunk-call .ensures))
 
 enum-told : tie.Need-enum-told
 enum-told c = search needs
@@ -52,8 +61,9 @@ after-model-requires : tie.Need-after-model-requires
 after-model-requires c κs =
     let call = called (c .before .before .before .before .before) in
     let s = start (took call) in
-    let len : length (call .chunk-call .last .1 .1 .1 .1 .0) ≡ length (s .args .status .now) = call .chunk-call .kept .1 .1 .1 .1 .0 ∙ s .pre .1 in
-    (rw len (s .pre .0), ready call, len)
+    let kept = call .chunk-call .kept .1 .1 .1 .1 .0 in
+    let len : length (call .chunk-call .last .1 .1 .1 .1 .0) ≡ length (s .args .status .now) = kept ∙ s .pre .over .values-len in
+    record { formula = rw len (s .pre .over .formula); tally = ready call; model-len = len }
 
 enum-told-2 : tie.Need-enum-told-2
 enum-told-2 c = search needs
@@ -62,7 +72,12 @@ after-none-requires : tie.Need-after-none-requires
 after-none-requires c κs =
     let call = called (c .before .before .before .before) in
     let s = start (took call) in
-    (ready call, omega (arith, took call .lesser .ensures), omega (arith, size-le (s .pre .2 .some) (s .pre .3 .reached), s .pre .2 .most))
+    let o = s .pre .over in
+    record {
+      tally = ready call;
+      chunk-most = omega (arith, took call .lesser .ensures);
+      size-fit = omega (arith, size-le (o .allowed .some) (o .here .reached), o .allowed .most);
+    }
 
 enum-told-3 : tie.Need-enum-told-3
 enum-told-3 c = search needs
@@ -85,8 +100,9 @@ returns c =
     let call = called (told .before .before) in
     let l = took call in
     let s = start l in
-    λ w. on-model (s .args .entries .now) (length (s .args .status .now)) (s .args .limits) w (s .pre .2 .some) (s .pre .4)
-    (ready call .row .log-room) (l .lesser .result) (l .lesser .ensures) (call .chunk-call .ensures) (told .enum-told .given .1) (c .before .before .before .before .before .before .after-model .ensures)
+    λ w. on-model (s .args .entries .now) (length (s .args .status .now)) (s .args .limits) w (s .pre .over .allowed .some) (s .pre .some)
+    (ready call .row .log-room) (l .lesser .result) (l .lesser .ensures) (call .chunk-call .ensures) (told .enum-told .given .1)
+    (c .before .before .before .before .before .before .after-model .ensures)
 
 same-length-4 : tie.Need-same-length-4
 same-length-4 c = search needs
@@ -103,8 +119,9 @@ returns-2 c =
     let call = called (told .before .before) in
     let l = took call in
     let s = start l in
-    λ w. on-none (s .args .entries .now) (length (s .args .status .now)) (s .args .limits) w (s .pre .2 .some) (s .pre .4)
-    (ready call .row .log-room) (l .lesser .result) (l .lesser .ensures) (call .chunk-call .ensures) (told .enum-told2 .given .1) (c .before .before .before .before .after-none .ensures)
+    λ w. on-none (s .args .entries .now) (length (s .args .status .now)) (s .args .limits) w (s .pre .over .allowed .some) (s .pre .some)
+    (ready call .row .log-room) (l .lesser .result) (l .lesser .ensures) (call .chunk-call .ensures) (told .enum-told2 .given .1)
+    (c .before .before .before .before .after-none .ensures)
 
 same-length-7 : tie.Need-same-length-7
 same-length-7 c = search needs
@@ -121,8 +138,9 @@ returns-3 c =
     let call = called (told .before .before) in
     let l = took call in
     let s = start l in
-    λ w. on-stopped (s .args .entries .now) (length (s .args .status .now)) (s .args .limits) w (s .pre .2 .some) (s .pre .4)
-    (ready call .row .log-room) (l .lesser .result) (l .lesser .ensures) (call .chunk-call .ensures) (told .enum-told3 .given .1) (c .before .before .row-only .ensures)
+    λ w. on-stopped (s .args .entries .now) (length (s .args .status .now)) (s .args .limits) w (s .pre .over .allowed .some) (s .pre .some)
+    (ready call .row .log-room) (l .lesser .result) (l .lesser .ensures) (call .chunk-call .ensures) (told .enum-told3 .given .1)
+    (c .before .before .row-only .ensures)
 
 pub next-call-spec : {M : Type 1} → statement M
 next-call-spec =

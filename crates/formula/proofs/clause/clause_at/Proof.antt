@@ -31,7 +31,10 @@ in-formula c =
     omega (arith, c .if1 .taken, ap length (start .pre .starts-are), length-startsOf (start .args .entries .now))
 
 -- between the start that was looked up and the next one stands clause n
-here : (c : tie.Then1) → Part 0 (c .before .before .args .entries .now) (getD (c .before .before .args .starts .now) (c .before .before .args .n .0 - 1) 0) (getD (c .before .before .args .starts .now) (c .before .before .args .n .0) 0) (getD (clauses (c .before .before .args .entries .now)) (pred (c .before .before .args .n .0)) [])
+here : (c : tie.Then1) → Part 0 (c .before .before .args .entries .now)
+    (getD (c .before .before .args .starts .now) (c .before .before .args .n .0 - 1) 0)
+    (getD (c .before .before .args .starts .now) (c .before .before .args .n .0) 0)
+    (getD (clauses (c .before .before .args .entries .now)) (pred (c .before .before .args .n .0)) [])
 here c =
     let start = c .before .before in
     rw (start .pre .starts-are) (startsOf-part (start .args .entries .now) (start .args .n .0) (start .pre .some) (in-formula c))

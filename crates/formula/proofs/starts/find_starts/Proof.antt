@@ -57,7 +57,11 @@ slice-write-starts-2 : tie.Need-slice-write-starts-2 Inv-loop μ-loop
 slice-write-starts-2 c =
     let at-loop = c .before .before .before in
     let l = at-loop .loop in
-    omega (arith, scan-room (at-loop .before .args .entries .now) _ (l .starts) (l .clauses) (l .i) (c .before .before .loop-test .taken) (l .inv) (is-zero c) (room at-loop))
+    omega (
+      arith,
+      scan-room (at-loop .before .args .entries .now) _ (l .starts) (l .clauses) (l .i) (c .before .before .loop-test .taken) (l .inv)
+          (is-zero c) (room at-loop),
+    )
 
 loop-less : tie.Need-loop-less Inv-loop μ-loop
 loop-less c = search needs
@@ -75,7 +79,8 @@ loop-again-2 : tie.Need-loop-again-2 Inv-loop μ-loop
 loop-again-2 c =
     let at-loop = c .before .before .before in
     let l = at-loop .loop in
-    scan-other (at-loop .before .args .entries .now) _ (l .starts) (l .clauses) (l .i) (c .before .before .loop-test .taken) (l .inv) (λ e. c .if1 .left (ap (ofZ w32) e))
+    scan-other (at-loop .before .args .entries .now) _ (l .starts) (l .clauses) (l .i) (c .before .before .loop-test .taken) (l .inv)
+    (λ e. c .if1 .left (ap (ofZ w32) e))
 
 same-length : tie.Need-same-length Inv-loop μ-loop
 same-length c = c .before .loop .inv .len ∙ length-set (c .before .before .args .starts .now) 0 0

@@ -8,7 +8,8 @@ use lib.ListN.{getD, length, take}
 use borrow.Author.Needs.{needs}
 use Rattle.rules.specs.Meaning.{isTrue, hasTrue}
 use Rattle.rules.proofs.ListLaws.{in-getD, any-complete}
-use Rattle.formula.proofs.SignedLaws.{toZ-ofZ-at, of-literal}
+use Rattle.rules.proofs.BitLaws.{toZ-ofZ-at}
+use Rattle.formula.proofs.SignedLaws.{of-literal}
 use Rattle.formula.proofs.StateLaws.{none-step, none-done}
 use Rattle.formula.proofs.state.has_true.Statement.{statement}
 use Rattle.formula.proofs.state.has_true.Tie as tie
@@ -31,14 +32,17 @@ shared-slice-copy-out-t8 c = search needs
 is-true-requires : tie.Need-is-true-requires Inv-loop μ-loop
 is-true-requires c κs =
     let start = c .before .before .before .before in
-    rw (toZ-ofZ-at _ (record { sfits = c .t8 .given })) (start .pre .each _ (in-getD (start .args .clause .now) (c .before .before .loop .i) (pos 0) (c .before .loop-test .taken)))
+    rw (toZ-ofZ-at _ (record { sfits = c .t8 .given }))
+    (start .pre .each _ (in-getD (start .args .clause .now) (c .before .before .loop .i) (pos 0) (c .before .loop-test .taken)))
 
 -- what the test says, it says of the literal at i
-true-is : (c : tie.After-is-true Inv-loop μ-loop) → isTrue (c .before .before .before .before .before .args .values .now) (getD (c .before .before .before .before .before .args .clause .now) (c .before .before .before .loop .i) (pos 0)) ≡ c .is-true .result
+true-is : (c : tie.After-is-true Inv-loop μ-loop) → isTrue (c .before .before .before .before .before .args .values .now)
+    (getD (c .before .before .before .before .before .args .clause .now) (c .before .before .before .loop .i) (pos 0)) ≡ c .is-true .result
 true-is c =
     let at-loop = c .before .before .before in
     let args = at-loop .before .before .args in
-    of-literal (isTrue (args .values .now)) (getD (args .clause .now) (at-loop .loop .i) (pos 0)) (record { sfits = c .before .t8 .given }) (c .is-true .ensures)
+    of-literal (isTrue (args .values .now)) (getD (args .clause .now) (at-loop .loop .i) (pos 0)) (record { sfits = c .before .t8 .given })
+    (c .is-true .ensures)
 
 returns : tie.Need-returns Inv-loop μ-loop
 returns c =
@@ -60,7 +64,8 @@ loop-again c =
     let found = c .before in
     let at-loop = found .before .before .before in
     let start = at-loop .before .before in
-    none-step (isTrue (start .args .values .now)) (start .args .clause .now) (at-loop .loop .i) (at-loop .loop .inv) (found .before .before .loop-test .taken) (true-is found ∙ c .if1 .left)
+    none-step (isTrue (start .args .values .now)) (start .args .clause .now) (at-loop .loop .i) (at-loop .loop .inv)
+    (found .before .before .loop-test .taken) (true-is found ∙ c .if1 .left)
 
 returns-2 : tie.Need-returns-2 Inv-loop μ-loop
 returns-2 c =

@@ -36,7 +36,9 @@ returns-2 c =
     (sym (c .before .before .first-unset .ensures) ∙ c .enum-told .given .1))
 
 -- behind the last test: what it says decides between a unit and undecided
-decided : (c : tie.After-has-other-unset) → stateOf (c .before .before .before .before .before .before .before .before .args .values .now) (c .before .before .before .before .before .before .before .before .args .clause .now) ≡ unitIf (not (c .has-other-unset .result)) (c .before .before .l .given .0 .0 .0)
+decided : (c : tie.After-has-other-unset) → stateOf (c .before .before .before .before .before .before .before .before .args .values .now)
+    (c .before .before .before .before .before .before .before .before .args .clause .now)
+    ≡ unitIf (not (c .has-other-unset .result)) (c .before .before .l .given .0 .0 .0)
 decided c =
     let found = c .before .before in
     let none = found .before .before .before in

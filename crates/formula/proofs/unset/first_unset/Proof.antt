@@ -9,7 +9,8 @@ use borrow.Author.Needs.{needs}
 use Rattle.rules.specs.Lists.{any}
 use Rattle.rules.specs.Meaning.{isUnset}
 use Rattle.rules.proofs.ListLaws.{in-getD}
-use Rattle.formula.proofs.SignedLaws.{toZ-ofZ-at, of-literal}
+use Rattle.rules.proofs.BitLaws.{toZ-ofZ-at}
+use Rattle.formula.proofs.SignedLaws.{of-literal}
 use Rattle.formula.proofs.StateLaws.{none-step, first-here, first-none}
 use Rattle.formula.proofs.unset.first_unset.Statement.{statement}
 use Rattle.formula.proofs.unset.first_unset.Tie as tie
@@ -32,21 +33,27 @@ shared-slice-copy-out-t8 c = search needs
 is-unset-requires : tie.Need-is-unset-requires Inv-loop μ-loop
 is-unset-requires c κs =
     let start = c .before .before .before .before in
-    rw (toZ-ofZ-at _ (record { sfits = c .t8 .given })) (start .pre .each _ (in-getD (start .args .clause .now) (c .before .before .loop .i) (pos 0) (c .before .loop-test .taken)))
+    rw (toZ-ofZ-at _ (record { sfits = c .t8 .given }))
+    (start .pre .each _ (in-getD (start .args .clause .now) (c .before .before .loop .i) (pos 0) (c .before .loop-test .taken)))
 
 -- what the test says, it says of the literal at i
-unset-is : (c : tie.After-is-unset Inv-loop μ-loop) → isUnset (c .before .before .before .before .before .args .values .now) (getD (c .before .before .before .before .before .args .clause .now) (c .before .before .before .loop .i) (pos 0)) ≡ c .is-unset .result
+unset-is : (c : tie.After-is-unset Inv-loop μ-loop)
+    → isUnset (c .before .before .before .before .before .args .values .now)
+    (getD (c .before .before .before .before .before .args .clause .now) (c .before .before .before .loop .i) (pos 0)) ≡ c .is-unset .result
 unset-is c =
     let at-loop = c .before .before .before in
     let args = at-loop .before .before .args in
-    of-literal (isUnset (args .values .now)) (getD (args .clause .now) (at-loop .loop .i) (pos 0)) (record { sfits = c .before .t8 .given }) (c .is-unset .ensures)
+    of-literal (isUnset (args .values .now)) (getD (args .clause .now) (at-loop .loop .i) (pos 0)) (record { sfits = c .before .t8 .given })
+    (c .is-unset .ensures)
 
 returns : tie.Need-returns Inv-loop μ-loop
 returns c =
     let found = c .before in
     let at-loop = found .before .before .before in
     let start = at-loop .before .before in
-    rw (toZ-ofZ-at _ (record { sfits = found .before .t8 .given })) (sym (first-here (isUnset (start .args .values .now)) (start .args .clause .now) (at-loop .loop .i) (at-loop .loop .inv) (found .before .before .loop-test .taken) (unset-is found ∙ c .if1 .taken)))
+    rw (toZ-ofZ-at _ (record { sfits = found .before .t8 .given }))
+    (sym (first-here (isUnset (start .args .values .now)) (start .args .clause .now) (at-loop .loop .i) (at-loop .loop .inv)
+    (found .before .before .loop-test .taken) (unset-is found ∙ c .if1 .taken)))
 
 add-i : tie.Need-add-i Inv-loop μ-loop
 add-i c = search needs
@@ -59,7 +66,8 @@ loop-again c =
     let found = c .before in
     let at-loop = found .before .before .before in
     let start = at-loop .before .before in
-    none-step (isUnset (start .args .values .now)) (start .args .clause .now) (at-loop .loop .i) (at-loop .loop .inv) (found .before .before .loop-test .taken) (unset-is found ∙ c .if1 .left)
+    none-step (isUnset (start .args .values .now)) (start .args .clause .now) (at-loop .loop .i) (at-loop .loop .inv)
+    (found .before .before .loop-test .taken) (unset-is found ∙ c .if1 .left)
 
 returns-2 : tie.Need-returns-2 Inv-loop μ-loop
 returns-2 c =

@@ -12,7 +12,8 @@ use borrow.Author.Needs.{needs}
 use Rattle.rules.specs.Meaning.{isUnset}
 use Rattle.rules.proofs.ListLaws.{in-getD, any-complete}
 use Rattle.formula.specs.Clauses.{isOtherUnset, hasOtherUnset}
-use Rattle.formula.proofs.SignedLaws.{toZ-ofZ-at, of-literal, ofZ-inj}
+use Rattle.rules.proofs.BitLaws.{toZ-ofZ-at}
+use Rattle.formula.proofs.SignedLaws.{of-literal, ofZ-inj}
 use Rattle.formula.proofs.StateLaws.{none-step, none-done, other-differs, other-equals}
 use Rattle.formula.proofs.unset.has_other_unset.Statement.{statement}
 use Rattle.formula.proofs.unset.has_other_unset.Tie as tie
@@ -37,10 +38,15 @@ is-unset-requires c κs =
     let read = c .before .before .before .before .before in
     let at-loop = read .before .before in
     let start = at-loop .before .before in
-    rw (toZ-ofZ-at _ (record { sfits = read .t9 .given })) (start .pre .each _ (in-getD (start .args .clause .now) (at-loop .loop .i) (pos 0) (read .before .loop-test .taken)))
+    rw (toZ-ofZ-at _ (record { sfits = read .t9 .given }))
+    (start .pre .each _ (in-getD (start .args .clause .now) (at-loop .loop .i) (pos 0) (read .before .loop-test .taken)))
 
 -- a literal that is not l is another unset one if the test says that it is unset
-other-is : (c : tie.After-is-unset Inv-loop μ-loop) → isOtherUnset (c .before .before .before .before .before .before .before .before .before .before .args .values .now) (c .before .before .before .before .before .before .before .before .before .before .args .l .0) (getD (c .before .before .before .before .before .before .before .before .before .before .args .clause .now) (c .before .before .before .before .before .before .before .before .loop .i) (pos 0)) ≡ c .is-unset .result
+other-is : (c : tie.After-is-unset Inv-loop μ-loop)
+    → isOtherUnset (c .before .before .before .before .before .before .before .before .before .before .args .values .now)
+    (c .before .before .before .before .before .before .before .before .before .before .args .l .0)
+    (getD (c .before .before .before .before .before .before .before .before .before .before .args .clause .now)
+    (c .before .before .before .before .before .before .before .before .loop .i) (pos 0)) ≡ c .is-unset .result
 other-is c =
     let read = c .before .before .before .before .before .before in
     let at-loop = read .before .before in
@@ -72,7 +78,8 @@ loop-again c =
     let k = getD (args .clause .now) (at-loop .loop .i) (pos 0) in
     none-step (isOtherUnset (args .values .now) (args .l .0)) (args .clause .now) (at-loop .loop .i) (at-loop .loop .inv) (read .before .loop-test .taken)
     (⊎-elim (λ w. other-is (record { before = record { before = c .before; if1 = w .0 }; is-unset = w .1 }) ∙ w .2 .left)
-    (λ w. other-equals (args .values .now) (args .l .0) k (ofZ-inj (read .t9 .given) (search needs) (ap (ofZ w32) (sym (toZ-ofZ-at k (record { sfits = read .t9 .given }))) ∙ w .left)))
+    (λ w. other-equals (args .values .now) (args .l .0) k
+    (ofZ-inj (read .t9 .given) (search needs) (ap (ofZ w32) (sym (toZ-ofZ-at k (record { sfits = read .t9 .given }))) ∙ w .left)))
     (c .if1 .came))
 
 returns-2 : tie.Need-returns-2 Inv-loop μ-loop

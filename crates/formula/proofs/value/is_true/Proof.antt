@@ -1,5 +1,5 @@
 -- `formula::value::is_true` meets its contract: the byte at the variable's index is that of the sign. Assumes nothing.
-use mathlib.Core.Path.{_≡_, sym, _∙_, ap}
+use mathlib.Core.Path.{_∙_, ap}
 use lib.Dec.{eqb}
 use borrow.Author.Needs.{needs}
 use Rattle.formula.specs.Literals.{byteOf}
@@ -27,7 +27,8 @@ returns c =
     let index = c .before .before .before in
     let start = index .before .before .before in
     ap (eqb _) (c .byte-of .ensures ∙ ap byteOf (c .before .sign .ensures)) ∙
-    isTrue-byte (start .args .values .now) (start .args .l .0) (index .index-of .result) (index .index-of .ensures ∙ index .before .var-of .ensures) (search needs)
+    isTrue-byte (start .args .values .now) (start .args .l .0) (index .index-of .result) (index .index-of .ensures ∙ index .before .var-of .ensures)
+    (search needs)
 
 pub is-true-spec : {M : Type 1} → statement M
 is-true-spec =

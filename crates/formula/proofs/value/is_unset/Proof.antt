@@ -18,7 +18,8 @@ returns : tie.Need-returns
 returns c =
     let index = c .before in
     let start = index .before .before .before in
-    isUnset-byte (start .args .values .now) (start .args .l .0) (index .index-of .result) (index .index-of .ensures ∙ index .before .var-of .ensures) (search needs)
+    isUnset-byte (start .args .values .now) (start .args .l .0) (index .index-of .result) (index .index-of .ensures ∙ index .before .var-of .ensures)
+    (search needs)
 
 pub is-unset-spec : {M : Type 1} → statement M
 is-unset-spec =

@@ -17,11 +17,14 @@ use Rattle.formula.specs.Literals.{byteOf}
 use Rattle.formula.specs.Starts.{callClauses}
 use Rattle.search.specs.declared.close.Closing.{Closing}
 use Rattle.search.specs.declared.meter.Meter.{Meter}
-use Rattle.search.specs.declared.meter.Taken.the-variants.{Try}
-use Rattle.search.specs.Meters.{takenOf}
+use Rattle.search.specs.declared.call.CallEnd.{CallEnd}
+use Rattle.search.specs.declared.meter.Asked.the-variants.{Given}
+use Rattle.search.specs.Meters.{askedOf}
 use Rattle.search.specs.Closings.{closedOf}
 use Rattle.search.specs.Calls.{TryOver, Calls, unlessModel}
-use Rattle.search.proofs.CallLaws.{saved-back, Chosen, chosen, choice-none, not-no-model, not-model, ends-clash, ends-model, ends-first, ends-second, falls-closing, undone, none-not-model, ends-stopped, ends-set, ends-unset, falls-set}
+use Rattle.search.proofs.EndLaws.{undone, none-not-model}
+use Rattle.search.proofs.CallLaws.{saved-back, Chosen, chosen, choice-none, not-no-model, not-model, ends-clash, ends-model}
+use Rattle.search.proofs.CallLaws.{ends-first, ends-second, falls-closing, ends-stopped, ends-set, ends-unset, falls-set}
 use Rattle.search.proofs.call.go_on.Reads as go-on
 use Rattle.search.proofs.call.go_on.Kinds as go-on-kinds
 use Rattle.search.proofs.call.+go_on+try_value.Lts-go_on as go-on-lts
@@ -30,7 +33,7 @@ use Rattle.search.proofs.call.try_value.Kinds as try-value-kinds
 use Rattle.search.proofs.call.+go_on+try_value.Lts-try_value as try-value-lts
 use Rattle.search.proofs.call.take_back.Reads as take-back-reads
 use Rattle.search.proofs.close.close.Reads as close-reads
-use Rattle.search.proofs.meter.take_try.Reads as take-try-reads
+use Rattle.search.proofs.meter.ask_try.Reads as ask-try-reads
 use Rattle.buffers.proofs.copy.copy_first.Reads as copy-first-reads
 use Rattle.search.proofs.values.lowest_unset.Reads as lowest-unset-reads
 use Rattle.search.proofs.values.set_value.Reads as set-value-reads
@@ -59,12 +62,30 @@ try-value-below t =
 
 module _ (t : ℕ) where
   abbrev go-on-claims : go-on-lts.Claims
-  go-on-claims =
-      (copy-first-reads.Asked, copy-first-reads.Learnt, close-reads.Asked, close-reads.Learnt, take-back-reads.Asked, take-back-reads.Learnt, lowest-unset-reads.Asked, lowest-unset-reads.Learnt, try-value-below t, try-value.Post)
+  go-on-claims = (
+    copy-first-reads.Asked,
+    copy-first-reads.Learnt,
+    close-reads.Asked,
+    close-reads.Learnt,
+    take-back-reads.Asked,
+    take-back-reads.Learnt,
+    lowest-unset-reads.Asked,
+    lowest-unset-reads.Learnt,
+    try-value-below t,
+    try-value.Post,
+  )
 
   abbrev try-value-claims : try-value-lts.Claims
-  try-value-claims =
-      (take-try-reads.Asked, take-try-reads.Learnt, set-value-reads.Asked, set-value-reads.Learnt, go-on-below t, go-on.Post, unset-value-reads.Asked, unset-value-reads.Learnt)
+  try-value-claims = (
+    ask-try-reads.Asked,
+    ask-try-reads.Learnt,
+    set-value-reads.Asked,
+    set-value-reads.Learnt,
+    go-on-below t,
+    go-on.Post,
+    unset-value-reads.Asked,
+    unset-value-reads.Learnt,
+  )
 
   -- ---- go_on: its places, and the values there
 
@@ -163,7 +184,8 @@ module _ (t : ℕ) where
 
   -- a try of it, from the values that closing left
   ready : (c : Chooses) (us : Values) → us ≡ closed-values (closed-at c)
-      → (2 * unsets us < t) × TryOver us (start-at (closed-at c) .args .entries .now) (start-at (closed-at c) .args .starts .now) (start-at (closed-at c) .args .constraint .now) (start-at (closed-at c) .args .total) (variable c)
+      → (2 * unsets us < t) × TryOver us (start-at (closed-at c) .args .entries .now) (start-at (closed-at c) .args .starts .now)
+      (start-at (closed-at c) .args .constraint .now) (start-at (closed-at c) .args .total) (variable c)
   ready c us e =
       let close = closed-at c in
       let start = start-at close in
@@ -262,10 +284,12 @@ module _ (t : ℕ) where
       let first = first-at second in
       let choice = chosen-at first in
       let close = closed-at choice in
-      ends-second (start-at close .args .meter) (clauses close) (values close) (closed-values close) (pred (variable choice)) (closed-is choice) (chosen-is choice .lowest)
+      ends-second (start-at close .args .meter) (clauses close) (values close) (closed-values close) (pred (variable choice)) (closed-is choice)
+      (chosen-is choice .lowest)
       (first .try-value .result) (first-values first) (first .try-value .ensures) (told .enum-told4 .given .1)
       (second .try-value2 .result) (second-values second) (back .take-back2 .last .0) (second .try-value2 .ensures)
-      (back .take-back2 .ensures ∙ ap (unlessModel (second .try-value2 .result .outcome) (second-values second)) (saved-is close (second-values second) (second-len second)))
+      (back .take-back2 .ensures ∙ ap (unlessModel (second .try-value2 .result .outcome) (second-values second))
+      (saved-is close (second-values second) (second-len second)))
 
   go-on-slice-aggregate-take-back-3 : go-on-lts.Need-slice-aggregate-take-back-3 go-on-claims (go-on-at t) go-on.Post
   go-on-slice-aggregate-take-back-3 c = sym (saved-long (saved-at (closed-at (chosen-at (c .before .before .before .before .before)))))
@@ -286,10 +310,12 @@ module _ (t : ℕ) where
       let first = other .before .before .before in
       let choice = chosen-at first in
       let close = closed-at choice in
-      ends-first (start-at close .args .meter) (clauses close) (values close) (closed-values close) (pred (variable choice)) (closed-is choice) (chosen-is choice .lowest)
+      ends-first (start-at close .args .meter) (clauses close) (values close) (closed-values close) (pred (variable choice)) (closed-is choice)
+      (chosen-is choice .lowest)
       (first .try-value .result) (first-values first) (first .try-value .ensures)
       (not-no-model (first .try-value .result .outcome) (other .match3 .keys2)) (back .take-back3 .last .0)
-      (back .take-back3 .ensures ∙ ap (unlessModel (first .try-value .result .outcome) (first-values first)) (saved-is close (first-values first) (first-len first)))
+      (back .take-back3 .ensures ∙ ap (unlessModel (first .try-value .result .outcome) (first-values first))
+      (saved-is close (first-values first) (first-len first)))
 
   -- ---- try_value: its places, and the values there
 
@@ -323,6 +349,9 @@ module _ (t : ℕ) where
   abbrev set-values : Asked → Values
   set-values c = set (c .args .values .now) (index c) (byteOf (c .args .value))
 
+  abbrev WentOn : Asked → Meter → CallEnd → Values → Type 0
+  WentOn c m result after = Calls (c .args .entries .now) (c .args .constraint .now) (c .args .total) (set-values c) m result after
+
   -- the meter that was given
   abbrev left : Paid → Meter
   left c = c .left .given .0 .0
@@ -335,17 +364,17 @@ module _ (t : ℕ) where
   went-len : (c : Went-on) → length (c .go-on .last .1 .1 .1 .1 .0) ≡ length (asked-at (paid-at (set-at c)) .args .values .now)
   went-len c = c .go-on .kept .1 .1 .1 .1 .0 ∙ set-len (set-at c)
 
-  paid-is : (c : Paid) → takenOf (asked-at c .args .meter) ≡ Try (left c)
-  paid-is c = sym (c .before .before .take-try .ensures) ∙ c .left .given .1
+  paid-is : (c : Paid) → askedOf (asked-at c .args .meter) ≡ Given (left c)
+  paid-is c = sym (c .before .before .ask-try .ensures) ∙ c .left .given .1
 
   -- going on was a call from the values with the variable set
-  went-on : (c : Went-on) → Calls (asked-clauses (asked-at (paid-at (set-at c)))) (set-values (asked-at (paid-at (set-at c)))) (left (paid-at (set-at c))) (c .go-on .result) (c .go-on .last .1 .1 .1 .1 .0)
+  went-on : (c : Went-on) → WentOn (asked-at (paid-at (set-at c))) (left (paid-at (set-at c))) (c .go-on .result) (c .go-on .last .1 .1 .1 .1 .0)
   went-on c = rw (← set-at c .set-value .ensures) (c .go-on .ensures)
 
   -- ---- try_value: the answers
 
-  try-value-take-try-requires : try-value-lts.Need-take-try-requires try-value-claims (try-value-at t) try-value.Post
-  try-value-take-try-requires c κs = tt
+  try-value-ask-try-requires : try-value-lts.Need-ask-try-requires try-value-claims (try-value-at t) try-value.Post
+  try-value-ask-try-requires c κs = tt
 
   try-value-enum-known-left : try-value-lts.Need-enum-known-left try-value-claims (try-value-at t) try-value.Post
   try-value-enum-known-left c = search needs
@@ -357,7 +386,8 @@ module _ (t : ℕ) where
   try-value-returns c =
       let taken = c .before .before in
       let asked = taken .before .before .before in
-      ends-stopped (asked .args .meter) (asked-clauses asked) (asked .args .values .now) (index asked) (byteOf (asked .args .value)) (sym (taken .take-try .ensures) ∙ c .enum-told .given .1)
+      ends-stopped (asked .args .meter) (asked-clauses asked) (asked .args .values .now) (index asked) (byteOf (asked .args .value))
+      (sym (taken .ask-try .ensures) ∙ c .enum-told .given .1)
 
   try-value-set-value-requires : try-value-lts.Need-set-value-requires try-value-claims (try-value-at t) try-value.Post
   try-value-set-value-requires c κs = asked-at (c .before .before) .pre .1 .variable
@@ -366,7 +396,11 @@ module _ (t : ℕ) where
   try-value-go-on-requires c κs =
       let set = c .before .before .before in
       let asked = asked-at (paid-at set) in (
-        rw (set .set-value .ensures) (omega (arith, asked .pre .0, falls-set (asked .args .values .now) (index asked) (asked .args .value) (asked .pre .1 .unset))),
+        rw (set .set-value .ensures) (omega (
+          arith,
+          asked .pre .0,
+          falls-set (asked .args .values .now) (index asked) (asked .args .value) (asked .pre .1 .unset),
+        )),
         rw (set-len set) (asked .pre .1 .call),
       )
 
@@ -437,7 +471,7 @@ pub +go-on+try-value-spec : {M : Type 1} → statement M
     λ t. try-value-lts.spec (try-value-claims t)
     (try-value-at t)
     try-value.Post
-    (try-value-take-try-requires t)
+    (try-value-ask-try-requires t)
     (try-value-enum-known-left t)
     (try-value-enum-told t)
     (try-value-returns t)

@@ -22,7 +22,8 @@ returns-2 c =
     let copy = c .before .before in
     let other = copy .before .before in
     let start = other .before .before .before in
-    copy .copy-first .ensures ∙ copied-back (start .args .outcome) (start .args .values .now) (start .args .saved .now) (not-model (start .args .outcome) (other .match .keys2))
+    copy .copy-first .ensures ∙ copied-back (start .args .outcome) (start .args .values .now) (start .args .saved .now)
+    (not-model (start .args .outcome) (other .match .keys2))
 
 pub take-back-spec : {M : Type 1} → statement M
 take-back-spec = tie.close (tie.spec enum-told returns copy-first-requires same-length returns-2)

@@ -2,10 +2,10 @@
 -- from those at entry. The measure is the number of unset variables. Assumes nothing.
 use mathlib.Core.Path.{_≡_, _∙_, ap}
 use borrow.Author.Needs.{needs}
-use Rattle.rules.specs.Closing.{under-way, round, unsets}
+use Rattle.rules.specs.Closing.{round, unsets}
 use Rattle.formula.specs.Starts.{callClauses}
 use Rattle.search.specs.declared.close.RoundEnd.{RoundEnd}
-use Rattle.search.specs.Closings.{roundOf}
+use Rattle.search.specs.Closings.{roundOf, RoundsTo}
 use Rattle.search.proofs.CloseLaws.{Rounds, rounds-start, rounds-false, rounds-still, rounds-again, rounds-falls}
 use Rattle.search.proofs.close.close.Statement.{statement}
 use Rattle.search.proofs.close.close.Tie as tie
@@ -34,7 +34,8 @@ same-length c =
 
 -- what the round ends with, read as the definition's, at the values that it left
 round-is : (c : tie.After-round Inv-loop μ-loop) {r : RoundEnd} → c .round .result ≡ r
-    → round (callClauses (c .before .before .before .before .before .args .entries .now) (c .before .before .before .before .before .args .constraint .now) (c .before .before .before .before .before .args .total)) (under-way (c .before .before .loop .values) 0) ≡ roundOf r (c .round .last .1 .1 .1 .1 .0)
+    → RoundsTo (c .before .before .before .before .before .args .entries .now) (c .before .before .before .before .before .args .constraint .now)
+    (c .before .before .before .before .before .args .total) (c .before .before .loop .values) r (c .round .last .1 .1 .1 .1 .0)
 round-is c e = c .round .ensures ∙ ap (λ (r : RoundEnd). roundOf r (c .round .last .1 .1 .1 .1 .0)) e
 
 returns : tie.Need-returns Inv-loop μ-loop

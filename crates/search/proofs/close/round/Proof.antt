@@ -10,7 +10,16 @@ use borrow.Author.Needs.{needs}
 use Rattle.formula.specs.Clauses.{ClauseUpTo}
 use Rattle.formula.specs.Starts.{clauseAt, callClauses}
 use Rattle.formula.proofs.ClauseLaws.{length-callClauses, getD-callClauses, clauseAt-up-to}
-use Rattle.search.proofs.RoundLaws.{Rounding, rounding-start, rounding-false, rounding-unit, rounding-true, rounding-undecided, rounding-done, unit-up-to}
+use Rattle.search.proofs.RoundLaws.{
+  Rounding,
+  rounding-start,
+  rounding-false,
+  rounding-unit,
+  rounding-true,
+  rounding-undecided,
+  rounding-done,
+  unit-up-to,
+}
 use Rattle.search.proofs.close.round.Statement.{statement}
 use Rattle.search.proofs.close.round.Tie as tie
 
@@ -32,7 +41,10 @@ clause-in-requires c κs =
     record { starts-are = start .pre .formula .starts-are; some = omega arith; most = omega (arith, c .loop-test .taken, start .pre .total-most) }
 
 -- the clause that was looked up is the next one of the call
-clause-is : (c : tie.After-clause-in Inv-loop μ-loop) → getD (callClauses (c .before .before .before .before .before .args .entries .now) (c .before .before .before .before .before .args .constraint .now) (c .before .before .before .before .before .args .total)) (c .before .before .loop .n) [] ≡ c .clause-in .result .now
+clause-is : (c : tie.After-clause-in Inv-loop μ-loop)
+    → getD (callClauses (c .before .before .before .before .before .args .entries .now)
+    (c .before .before .before .before .before .args .constraint .now) (c .before .before .before .before .before .args .total))
+    (c .before .before .loop .n) [] ≡ c .clause-in .result .now
 clause-is c =
     let start = c .before .before .before .before .before in
     let n = c .before .before .loop .n in
@@ -41,7 +53,9 @@ clause-is c =
     sym {b = clauseAt (start .args .entries .now) (start .args .constraint .now) (n + 1)} (c .clause-in .ensures)
 
 -- and is within the call
-in-call : (c : tie.In-loop Inv-loop μ-loop) → c .before .loop .n < length (callClauses (c .before .before .before .before .args .entries .now) (c .before .before .before .before .args .constraint .now) (c .before .before .before .before .args .total))
+in-call : (c : tie.In-loop Inv-loop μ-loop) → c .before .loop .n < length
+    (callClauses (c .before .before .before .before .args .entries .now) (c .before .before .before .before .args .constraint .now)
+    (c .before .before .before .before .args .total))
 in-call c =
     let start = c .before .before .before .before in
     rw (length-callClauses (start .args .entries .now) (start .args .constraint .now) (start .args .total) (start .pre .total-most)) (c .loop-test .taken)
@@ -52,7 +66,8 @@ up-to c =
     let start = c .before .before .before .before .before in
     let n = c .before .before .loop .n in
     rw (c .before .before .loop .inv .len, c .clause-in .ensures, add-one n)
-    (clauseAt-up-to (length (start .args .values .now)) (start .args .entries .now) (start .args .constraint .now) n (start .pre .formula .up-to) (start .pre .constraint-up-to)
+    (clauseAt-up-to (length (start .args .values .now)) (start .args .entries .now) (start .args .constraint .now) n (start .pre .formula .up-to)
+    (start .pre .constraint-up-to)
     (omega (arith, c .before .loop-test .taken, start .pre .total-most)))
 
 state-of-requires : tie.Need-state-of-requires Inv-loop μ-loop

@@ -29,7 +29,11 @@ add-t8 c = search needs
 returns : tie.Need-returns Inv-loop μ-loop
 returns c =
     let at-loop = c .before .before .before in
-    rw (passed-unset (at-loop .before .args .values .now) (at-loop .loop .i) (c .before .before .loop-test .taken) (at-loop .loop .inv) (c .if1 .taken), add-one)
+    rw (
+      passed-unset (at-loop .before .args .values .now) (at-loop .loop .i) (c .before .before .loop-test .taken) (at-loop .loop .inv)
+          (c .if1 .taken),
+      add-one,
+    )
 
 add-i : tie.Need-add-i Inv-loop μ-loop
 add-i c = search needs

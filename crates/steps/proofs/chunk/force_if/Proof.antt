@@ -1,7 +1,5 @@
 -- `chunk::force_if` meets its contract: by the law for each of its three ways. Assumes nothing.
-use mathlib.Core.Path.{_≡_, sym, _∙_, ap}
 use borrow.Author.Needs.{needs}
-use Rattle.steps.specs.Chunk.{ForcesAt}
 use Rattle.steps.proofs.ChunkLaws.{forces-open, forces-none, forces-closed}
 use Rattle.steps.proofs.chunk.force_if.Statement.{statement}
 use Rattle.steps.proofs.chunk.force_if.Tie as tie
@@ -27,7 +25,8 @@ same-length c = search needs
 returns : tie.Need-returns
 returns c =
     let s = c .before .before .before .before .before .before .before in
-    rw (c .forced-by .ensures) (forces-open (s .args .first .now) (s .args .status .now) (s .args .i) (s .args .left) (c .before .before .before .if1 .taken) (c .before .before .if2 .taken))
+    rw (c .forced-by .ensures) (forces-open (s .args .first .now) (s .args .status .now) (s .args .i) (s .args .left)
+    (c .before .before .before .if1 .taken) (c .before .before .if2 .taken))
 
 returns-2 : tie.Need-returns-2
 returns-2 c =

@@ -1,8 +1,6 @@
 -- `compare::compare` meets its contract. The invariant of its loop: what is left is to free behind i, and what was dropped is counted.
 -- The measure is what is left of the length. Assumes nothing.
-use mathlib.Core.Path.{_≡_, refl, sym, _∙_, ap}
-use mathlib.Core.Bool.{not}
-use Prim.Native.Nat.{ℕ, _+_, _-_}
+use Prim.Native.Nat.{_-_}
 use native.Mathlib.Omega.{arith}
 use borrow.Author.Needs.{needs}
 use lib.ListN.{length}
@@ -35,7 +33,8 @@ loop-again c =
     let at-loop = c .before .before .before .before .before .before .before in
     let s = at-loop .before .before .before .before in
     filtering-step _ (at-loop .loop .inv) (c .before .before .before .before .before .before .loop-test .taken)
-    (differs-read (s .args .first .now) (s .args .model .now) (at-loop .loop .i) (omega (arith, at-loop .loop .inv .len)) (omega (arith, at-loop .loop .inv .len)))
+    (differs-read (s .args .first .now) (s .args .model .now) (at-loop .loop .i) (omega (arith, at-loop .loop .inv .len))
+    (omega (arith, at-loop .loop .inv .len)))
     (c .before .before .drop-if .ensures)
 
 add-dropped : tie.Need-add-dropped Inv-loop μ-loop

@@ -1,5 +1,5 @@
 -- `constraint::false_literal` meets its contract: by the byte. Assumes nothing.
-use mathlib.Core.Path.{_≡_, sym, _∙_, ap}
+use mathlib.Core.Path.{_∙_, ap}
 use native.Mathlib.Omega.{arith}
 use mir.Syntax.{w32}
 use mir.Facts.{toZ-pos}
@@ -24,7 +24,8 @@ returns c =
 returns-2 : tie.Need-returns-2
 returns-2 c =
     let s = c .before .before .before in
-    c .negated .ensures ∙ ap negated (toZ-pos w32 {n = s .args .v .0} (omega arith)) ∙ false-high (s .args .v .0) (s .args .byte) (s .pre .0) (c .before .if1 .left)
+    c .negated .ensures ∙ ap negated (toZ-pos w32 {n = s .args .v .0} (omega arith))
+    ∙ false-high (s .args .v .0) (s .args .byte) (s .pre .0) (c .before .if1 .left)
 
 pub false-literal-spec : {M : Type 1} → statement M
 false-literal-spec = tie.close (tie.spec cast-t4 negated-requires returns returns-2)

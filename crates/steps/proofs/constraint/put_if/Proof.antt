@@ -7,9 +7,10 @@ use lib.ListN.{getD}
 use borrow.Author.Needs.{needs}
 use Rattle.rules.specs.Meaning.{varOf, negated}
 use Rattle.rules.specs.Run.{literalAt}
-use Rattle.formula.proofs.SignedLaws.{toZ-ofZ-at, fits-of-var}
+use Rattle.rules.proofs.BitLaws.{toZ-ofZ-at}
+use Rattle.formula.proofs.SignedLaws.{fits-of-var}
 use Rattle.steps.proofs.ConstraintLaws.{varOf-false}
-use Rattle.steps.specs.Constraint.{PutsAt, candidate, full, settled}
+use Rattle.steps.specs.Constraint.{candidate, full, settled}
 use Rattle.steps.proofs.constraint.put_if.Statement.{statement}
 use Rattle.steps.proofs.constraint.put_if.Tie as tie
 
@@ -48,7 +49,8 @@ returns c =
     let b = getD (s .args .first .now) i 0 in
     let e : l .result .0 ≡ negated (literalAt i b) = l .ensures ∙ ap (λ (n : ℕ). negated (literalAt (pred n) b)) (add-one i) in
     let small : varOf (l .result .0) < 2 ^ 31 = rw e (omega (arith, varOf-false i b, s .pre)) in
-    rw (toZ-ofZ-at (l .result .0) (fits-of-var (l .result .0) small), e) (candidate (c .before .before .before .before .if1 .taken) (c .before .before .before .if2 .taken))
+    rw (toZ-ofZ-at (l .result .0) (fits-of-var (l .result .0) small), e)
+    (candidate (c .before .before .before .before .if1 .taken) (c .before .before .before .if2 .taken))
 
 returns-2 : tie.Need-returns-2
 returns-2 c = full (c .if2 .left)

@@ -31,7 +31,8 @@ flip-at-requires c κs =
 
 loop-again : tie.Need-loop-again Inv-loop μ-loop
 loop-again c =
-    flipping-step (c .before .before .before .before .before .before .before .before .loop .inv) (c .before .before .before .before .before .before .before .loop-test .taken) (c .before .before .before .before .flip-at .ensures)
+    flipping-step (c .before .before .before .before .before .before .before .before .loop .inv)
+    (c .before .before .before .before .before .before .before .loop-test .taken) (c .before .before .before .before .flip-at .ensures)
 
 add-dropped : tie.Need-add-dropped Inv-loop μ-loop
 add-dropped c =
