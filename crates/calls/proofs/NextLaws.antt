@@ -2,6 +2,7 @@
 --
 --   call-is           the call that code makes is that of rules/specs/Run
 --   call-up           a call spends no less than was spent
+--   CallMade          the call as code has made it
 --   on-model, on-none, on-stopped     what comes of it, by what it ended with
 --
 -- Assumes nothing.
@@ -29,7 +30,7 @@ use Rattle.calls.specs.declared.after.Made.{Made}
 use Rattle.calls.specs.declared.next.Limits.{Limits}
 use Rattle.calls.specs.declared.next.Next.the-variants.{GoesOn, Ends}
 use Rattle.calls.specs.After.{ModelLeft, NoneLeft, RowLeft}
-use Rattle.calls.specs.Next.{At, Called, chunkClauses, chunkOn, goes-on, ends, task}
+use Rattle.calls.specs.Next.{At, Called, ChunkCalled, chunkClauses, chunkOn, goes-on, ends, task}
 use Rattle.calls.proofs.AfterLaws.{shows-model, shows-none, ends-row}
 use Rattle.search.proofs.EndLaws.{was-model, was-none, was-stopped}
 use Rattle.calls.proofs.CallLaws.{call-next}
@@ -50,6 +51,15 @@ suc-pred (suc m) h = refl
 abbrev pub meterOf : Limits → Tally → Meter
 meterOf limits t = record { budget = limits .budget; spent = t .tries }
 
+-- a call that code has made, with candidates left and room for its row
+pub record CallMade (es : List ℤ) (limits : Limits) (t : Tally) (first : Values) (status log : List ℕ) (chunk : ℕ) (r : CallEnd) (after : Values)
+    : Type 0 where
+  pub some-limit : 1 ≤ limits .chunk
+  pub some : 1 ≤ t .candidates
+  pub room : 6 * (t .calls + 1) ≤ length log
+  pub chunk-is : chunk ≡ min (t .size) (t .candidates)
+  pub ended : ChunkCalled es first status chunk (meterOf limits t) r after
+
 module _ (es : List ℤ) (vars : ℕ) (limits : Limits) {t : Tally} {first status log : List ℕ} (w : At (task es vars limits) t first status log) where
   abbrev k : Task
   k = task es vars limits
@@ -65,9 +75,7 @@ module _ (es : List ℤ) (vars : ℕ) (limits : Limits) {t : Tally} {first statu
       ap (λ (ss : List ℕ). chunkOn es (p .first) ss chunk (meterOf limits t)) (x .status-is) ∙
       ap (λ (n : ℕ). chunkOn es (p .first) (p .statuses) chunk (record { budget = limits .budget; spent = n })) (x .tries-is)
 
-  module _ (some-limit : 1 ≤ limits .chunk) (some : 1 ≤ t .candidates) (room : 6 * (t .calls + 1) ≤ length log)
-      (chunk : ℕ) (chunk-is : chunk ≡ min (t .size) (t .candidates))
-      {r : CallEnd} {after : Values} (e : CallEnds (chunkOn es first status chunk (meterOf limits t)) (forcedValues status) (limits .budget) r after)
+  module _ {chunk : ℕ} {r : CallEnd} {after : Values} (d : CallMade es limits t first status log chunk r after)
     where
       abbrev n : ℕ
       n = pred (opens (p .statuses))
@@ -81,10 +89,10 @@ module _ (es : List ℤ) (vars : ℕ) (limits : Limits) {t : Tally} {first statu
       made = record { chunk = chunk; spent = r .meter .spent }
 
       opens-are : opens (p .statuses) ≡ suc n
-      opens-are = suc-pred (opens (p .statuses)) (omega (arith, w .shows .candidates-are))
+      opens-are = suc-pred (opens (p .statuses)) (omega (arith, w .shows .candidates-are, d .some))
 
       same : chunk ≡ taken
-      same = chunk-is ∙ ap (min (t .size)) (w .shows .candidates-are ∙ opens-are)
+      same = d .chunk-is ∙ ap (min (t .size)) (w .shows .candidates-are ∙ opens-are)
 
       call : {c : Call} → chunkOn es first status chunk (meterOf limits t) ≡ c → chunkCall k p taken ≡ c
       call q = ap (chunkCall k p) (sym same) ∙ sym (call-is chunk) ∙ q
@@ -96,17 +104,17 @@ module _ (es : List ℤ) (vars : ℕ) (limits : Limits) {t : Tally} {first statu
 
       values-left : after ≡ valuesAfter (chunkCall k p (min (t .size) (opens (p .statuses)))) (forcedValues (p .statuses))
       values-left =
-          e .values-are ∙
+          d .ended .values-are ∙
           ap (λ (c : Call). valuesAfter c (forcedValues status))
-          (call-is chunk ∙ ap (chunkCall k p) (chunk-is ∙ ap (min (t .size)) (w .shows .candidates-are))) ∙
+          (call-is chunk ∙ ap (chunkCall k p) (d .chunk-is ∙ ap (min (t .size)) (w .shows .candidates-are))) ∙
           ap (λ (ss : List ℕ). valuesAfter (chunkCall k p (min (t .size) (opens (p .statuses)))) (forcedValues ss)) (w .shows .status-is)
 
       pub on-model : r .outcome ≡ Outcome.Model → {u : Tally} {m status′ log′ : List ℕ}
           → ModelLeft (clauses es) first after status log t made u m status′ log′
           → Called k (t .size) p first (GoesOn u) status′ log′ m
       on-model o {u} l =
-          let (z, x) = shows-model k p t (w .shows) room refl l in
-          let q = was-model e o in
+          let (z, x) = shows-model k p t (w .shows) (d .room) refl l in
+          let q = was-model (d .ended) o in
           let y = next-model after (r .meter .spent) (w .reached) (takes-min (t .size) p opens-are) (call q) in
           let there = afterModel k p taken after (r .meter .spent) in
           record {
@@ -122,15 +130,15 @@ module _ (es : List ℤ) (vars : ℕ) (limits : Limits) {t : Tally} {first statu
           → Called k (t .size) p first (GoesOn u) status′ log′ after
       on-none o {u} l =
           let here = known (w .reached) in
-          let (z, x) = shows-none k p t (w .shows) room (first-model-is here .len ∙ sym (here .len)) (omega (arith, same, opens-are)) l in
-          let q = was-none e o in
+          let (z, x) = shows-none k p t (w .shows) (d .room) (first-model-is here .len ∙ sym (here .len)) (omega (arith, same, opens-are)) l in
+          let q = was-none (d .ended) o in
           let y = next-none (r .meter .spent) (w .reached) (takes-min (t .size) p opens-are) (call q) (doubled-min (t .size) (limits .chunk)) in
           let there = afterNone p taken (r .meter .spent) in
           let fewer = none-forces taken (w .reached) (omega (arith, opens-are)) .opens-less in
           record {
             next =
                 goes-on {t = u} (record { progress = there; reached = rw z y; shows = rw same at x })
-                (omega (arith, size-pos some-limit (w .reached), fewer, opens-are))
+                (omega (arith, size-pos (d .some-limit) (w .reached), fewer, opens-are))
                 (λ next. on-next q next ∙ ap (λ (j : ℕ). next j there) (sym z));
             values-are = values-left;
           }
@@ -139,8 +147,8 @@ module _ (es : List ℤ) (vars : ℕ) (limits : Limits) {t : Tally} {first statu
           → RowLeft log t Outcome.Stopped made u log′
           → Called k (t .size) p first (Ends u) status log′ after
       on-stopped o {u} l =
-          let x = ends-row k p t (w .shows) room Outcome.Stopped l in
+          let x = ends-row k p t (w .shows) (d .room) Outcome.Stopped l in
           record {
-            next = ends {r = u} (endedBy RunAnswer.Stopped (afterStop p taken (r .meter .spent))) (rw same at x) (on-next (was-stopped e o));
+            next = ends {r = u} (endedBy RunAnswer.Stopped (afterStop p taken (r .meter .spent))) (rw same at x) (on-next (was-stopped (d .ended) o));
             values-are = values-left;
           }

@@ -2,6 +2,7 @@
 -- comes to from those at the start.
 --
 --   Rounding                      n clauses visited, k literals set
+--   Looked                        and the next one looked up
 --   rounding-start, rounding-false, rounding-unit, rounding-true, rounding-undecided, rounding-done     the invariant begins, goes on, pays off
 --   unit-up-to                    the literal of a unit is of a variable from 1 to n
 --
@@ -34,12 +35,17 @@ pub record Rounding (F : List Clause) (from : Values) (n : ℕ) (vs : Values) (k
 pub rounding-start : (F : List Clause) (from : Values) → Rounding F from 0 from 0
 rounding-start F from = record { passed = omega arith; few = omega arith; len = refl; same = refl }
 
-module _ (F : List Clause) (from : Values) (n : ℕ) (vs : Values) (k : ℕ) (cl : Clause) (h : n < length F) (here : getD F n [] ≡ cl)
-    (w : Rounding F from n vs k) where
+-- the next clause of the round is looked up
+pub record Looked (F : List Clause) (from : Values) (n : ℕ) (vs : Values) (k : ℕ) (cl : Clause) : Type 0 where
+  pub within : n < length F
+  pub here : getD F n [] ≡ cl
+  pub so-far : Rounding F from n vs k
+
+module _ {F : List Clause} {from : Values} {n : ℕ} {vs : Values} {k : ℕ} {cl : Clause} (w : Looked F from n vs k cl) where
   visited : {s : ClauseState} → stateOf vs cl ≡ s → round (drop (suc n) F) (met s vs k) ≡ round F (under-way from 0)
   visited e =
-      let d : drop n F ≡ cl ∷ drop (suc n) F = drop-cons F n [] h ∙ ap (λ (c : Clause). c ∷ drop (suc n) F) here in
-      ap (λ (s : ClauseState). round (drop (suc n) F) (met s vs k)) (sym e) ∙ rw d at (w .same)
+      let d : drop n F ≡ cl ∷ drop (suc n) F = drop-cons F n [] (w .within) ∙ ap (λ (c : Clause). c ∷ drop (suc n) F) (w .here) in
+      ap (λ (s : ClauseState). round (drop (suc n) F) (met s vs k)) (sym e) ∙ rw d at (w .so-far .same)
 
   pub rounding-false : stateOf vs cl ≡ False → round F (under-way from 0) ≡ at-false
   rounding-false e = sym (visited e) ∙ round-at-false (drop (suc n) F)
@@ -47,14 +53,14 @@ module _ (F : List Clause) (from : Values) (n : ℕ) (vs : Values) (k : ℕ) (cl
   pub rounding-unit : (l : Lit) → stateOf vs cl ≡ Unit l → Rounding F from (n + 1) (assign vs (l .0)) (k + 1)
   rounding-unit l e =
       record {
-        passed = omega arith;
-        few = omega (arith, w .few);
-        len = length-set vs (indexOf (l .0)) (trueByte (l .0)) ∙ w .len;
+        passed = omega (arith, w .within);
+        few = omega (arith, w .so-far .few);
+        len = length-set vs (indexOf (l .0)) (trueByte (l .0)) ∙ w .so-far .len;
         same = rw (add-one n, add-one k) (visited e);
       }
 
   calm : round (drop (suc n) F) (under-way vs k) ≡ round F (under-way from 0) → Rounding F from (n + 1) vs k
-  calm e = record { passed = omega arith; few = omega (arith, w .few); len = w .len; same = rw (add-one n) e }
+  calm e = record { passed = omega (arith, w .within); few = omega (arith, w .so-far .few); len = w .so-far .len; same = rw (add-one n) e }
 
   pub rounding-true : stateOf vs cl ≡ True → Rounding F from (n + 1) vs k
   rounding-true e = calm (visited e)

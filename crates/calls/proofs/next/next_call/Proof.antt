@@ -6,7 +6,7 @@ use lib.ListN.{length}
 use Rattle.calls.specs.declared.after.Made.{Made}
 use Rattle.calls.specs.After.{TallyReady}
 use Rattle.calls.proofs.CallLaws.{tally-ready, size-le}
-use Rattle.calls.proofs.NextLaws.{call-up, meterOf, on-model, on-none, on-stopped}
+use Rattle.calls.proofs.NextLaws.{call-up, meterOf, CallMade, on-model, on-none, on-stopped}
 use Rattle.calls.proofs.next.next_call.Statement.{statement}
 use Rattle.calls.proofs.next.next_call.Tie as tie
 
@@ -54,6 +54,20 @@ ready c =
     (call-up (s .args .entries .now) (s .args .first .now) (s .args .status .now) (took c .lesser .result) (meterOf (s .args .limits) (s .args .t))
     (c .chunk-call .ensures))
 
+-- the call that was made
+called-is : (c : tie.After-chunk-call) → let s = start (took c) in
+    CallMade (s .args .entries .now) (s .args .limits) (s .args .t) (s .args .first .now) (s .args .status .now) (s .args .log .now)
+    (took c .lesser .result) (c .chunk-call .result) (c .chunk-call .last .1 .1 .1 .1 .0)
+called-is c =
+    let p = start (took c) .pre in
+    record {
+      some-limit = p .over .allowed .some;
+      some = p .some;
+      room = ready c .row .log-room;
+      chunk-is = took c .lesser .ensures;
+      ended = c .chunk-call .ensures;
+    }
+
 enum-told : tie.Need-enum-told
 enum-told c = search needs
 
@@ -98,10 +112,7 @@ returns : tie.Need-returns
 returns c =
     let told = c .before .before .before .before .before .before .before .before .before .before in
     let call = called (told .before .before) in
-    let l = took call in
-    let s = start l in
-    λ w. on-model (s .args .entries .now) (length (s .args .status .now)) (s .args .limits) w (s .pre .over .allowed .some) (s .pre .some)
-    (ready call .row .log-room) (l .lesser .result) (l .lesser .ensures) (call .chunk-call .ensures) (told .enum-told .given .1)
+    λ w. on-model _ _ (start (took call) .args .limits) w (called-is call) (told .enum-told .given .1)
     (c .before .before .before .before .before .before .after-model .ensures)
 
 same-length-4 : tie.Need-same-length-4
@@ -117,10 +128,7 @@ returns-2 : tie.Need-returns-2
 returns-2 c =
     let told = c .before .before .before .before .before .before .before in
     let call = called (told .before .before) in
-    let l = took call in
-    let s = start l in
-    λ w. on-none (s .args .entries .now) (length (s .args .status .now)) (s .args .limits) w (s .pre .over .allowed .some) (s .pre .some)
-    (ready call .row .log-room) (l .lesser .result) (l .lesser .ensures) (call .chunk-call .ensures) (told .enum-told2 .given .1)
+    λ w. on-none _ _ (start (took call) .args .limits) w (called-is call) (told .enum-told2 .given .1)
     (c .before .before .before .before .after-none .ensures)
 
 same-length-7 : tie.Need-same-length-7
@@ -136,10 +144,7 @@ returns-3 : tie.Need-returns-3
 returns-3 c =
     let told = c .before .before .before .before in
     let call = called (told .before .before) in
-    let l = took call in
-    let s = start l in
-    λ w. on-stopped (s .args .entries .now) (length (s .args .status .now)) (s .args .limits) w (s .pre .over .allowed .some) (s .pre .some)
-    (ready call .row .log-room) (l .lesser .result) (l .lesser .ensures) (call .chunk-call .ensures) (told .enum-told3 .given .1)
+    λ w. on-stopped _ _ (start (took call) .args .limits) w (called-is call) (told .enum-told3 .given .1)
     (c .before .before .row-only .ensures)
 
 pub next-call-spec : {M : Type 1} → statement M

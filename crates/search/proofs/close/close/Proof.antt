@@ -5,6 +5,7 @@ use borrow.Author.Needs.{needs}
 use Rattle.rules.specs.Closing.{round, unsets}
 use Rattle.formula.specs.Starts.{callClauses}
 use Rattle.search.specs.declared.close.RoundEnd.{RoundEnd}
+use Rattle.search.specs.declared.close.RoundEnd.the-variants.{UnderWay}
 use Rattle.search.specs.Closings.{roundOf, RoundsTo}
 use Rattle.search.proofs.CloseLaws.{Rounds, rounds-start, rounds-false, rounds-still, rounds-again, rounds-falls}
 use Rattle.search.proofs.close.close.Statement.{statement}
@@ -52,26 +53,29 @@ same-length-2 c =
     let round = c .before .before .before .before .before .before in
     round .round .kept .1 .1 .1 .1 .0 ∙ round .before .before .loop .inv .len
 
+-- the same where it has set some, or none
+abbrev ended : tie.After-set Inv-loop μ-loop → tie.After-round Inv-loop μ-loop
+ended c = c .before .before .before .before
+
+set-is : (c : tie.After-set Inv-loop μ-loop) → let s = ended c .before .before .before .before .before in
+    RoundsTo (s .args .entries .now) (s .args .constraint .now) (s .args .total) (ended c .before .before .loop .values)
+    (UnderWay (c .set .given .0 .0)) (ended c .round .last .1 .1 .1 .1 .0)
+set-is c = round-is (ended c) (c .set .given .1)
+
 returns-2 : tie.Need-returns-2 Inv-loop μ-loop
 returns-2 c =
     let set = c .before .before in
-    let round = set .before .before .before .before in
-    let l = round .before .before .loop in
-    rounds-still _ _ (l .values) (l .inv) (round .round .last .1 .1 .1 .1 .0) (set .set .given .0 .0) (round-is round (set .set .given .1)) (c .if1 .taken)
+    rounds-still _ _ _ (ended set .before .before .loop .inv) _ _ (set-is set) (c .if1 .taken)
 
 loop-less : tie.Need-loop-less Inv-loop μ-loop
 loop-less c =
     let set = c .before .before in
-    let round = set .before .before .before .before in
-    let l = round .before .before .loop in
-    rounds-falls _ _ (l .values) (l .inv) (round .round .last .1 .1 .1 .1 .0) (set .set .given .0 .0) (round-is round (set .set .given .1)) (c .if1 .left)
+    rounds-falls _ _ _ (ended set .before .before .loop .inv) _ _ (set-is set) (c .if1 .left)
 
 loop-again : tie.Need-loop-again Inv-loop μ-loop
 loop-again c =
     let set = c .before .before in
-    let round = set .before .before .before .before in
-    let l = round .before .before .loop in
-    rounds-again _ _ (l .values) (l .inv) (round .round .last .1 .1 .1 .1 .0) (set .set .given .0 .0) (round-is round (set .set .given .1)) (c .if1 .left)
+    rounds-again _ _ _ (ended set .before .before .loop .inv) _ _ (set-is set) (c .if1 .left)
 
 pub close-spec : {M : Type 1} → statement M
 close-spec =

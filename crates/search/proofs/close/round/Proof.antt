@@ -1,17 +1,19 @@
 -- `search::close::round` meets its contract. The invariant of its loop: what is left of the round comes to what the whole one comes
 -- to. The measure is the number of clauses left. Assumes nothing.
-use mathlib.Core.Path.{_≡_, sym, _∙_, ap}
-use mathlib.Core.List.{[]}
-use Prim.Native.Nat.{_+_, _-_, _<_}
+use mathlib.Core.Path.{sym, _∙_, ap}
+use mathlib.Core.List.{List}
+use Prim.Native.Nat.{_+_, _-_}
 use native.Mathlib.Omega.{arith}
 use native.Mathlib.Numerals.{add-one}
-use lib.ListN.{getD, length}
+use lib.ListN.{length}
 use borrow.Author.Needs.{needs}
+use Rattle.rules.specs.Meaning.{Clause}
 use Rattle.formula.specs.Clauses.{ClauseUpTo}
 use Rattle.formula.specs.Starts.{clauseAt, callClauses}
 use Rattle.formula.proofs.ClauseLaws.{length-callClauses, getD-callClauses, clauseAt-up-to}
 use Rattle.search.proofs.RoundLaws.{
   Rounding,
+  Looked,
   rounding-start,
   rounding-false,
   rounding-unit,
@@ -40,35 +42,39 @@ clause-in-requires c κs =
     let start = c .before .before .before .before in
     record { starts-are = start .pre .formula .starts-are; some = omega arith; most = omega (arith, c .loop-test .taken, start .pre .total-most) }
 
--- the clause that was looked up is the next one of the call
-clause-is : (c : tie.After-clause-in Inv-loop μ-loop)
-    → getD (callClauses (c .before .before .before .before .before .args .entries .now)
-    (c .before .before .before .before .before .args .constraint .now) (c .before .before .before .before .before .args .total))
-    (c .before .before .loop .n) [] ≡ c .clause-in .result .now
-clause-is c =
-    let start = c .before .before .before .before .before in
-    let n = c .before .before .loop .n in
-    getD-callClauses (start .args .entries .now) (start .args .constraint .now) (start .args .total) n (c .before .loop-test .taken) ∙
-    ap (clauseAt (start .args .entries .now) (start .args .constraint .now)) (sym (add-one n)) ∙
-    sym {b = clauseAt (start .args .entries .now) (start .args .constraint .now) (n + 1)} (c .clause-in .ensures)
+-- where the function starts
+abbrev start : tie.After-clause-in Inv-loop μ-loop → tie.Start Inv-loop μ-loop
+start c = c .before .before .before .before .before
 
--- and is within the call
-in-call : (c : tie.In-loop Inv-loop μ-loop) → c .before .loop .n < length
-    (callClauses (c .before .before .before .before .args .entries .now) (c .before .before .before .before .args .constraint .now)
-    (c .before .before .before .before .args .total))
-in-call c =
-    let start = c .before .before .before .before in
-    rw (length-callClauses (start .args .entries .now) (start .args .constraint .now) (start .args .total) (start .pre .total-most)) (c .loop-test .taken)
+-- the clauses of the call
+abbrev clauses : tie.Start Inv-loop μ-loop → List Clause
+clauses s = callClauses (s .args .entries .now) (s .args .constraint .now) (s .args .total)
+
+-- the clause that was looked up is the next one of the call
+looked : (c : tie.After-clause-in Inv-loop μ-loop) → let l = c .before .before .loop in
+    Looked (clauses (start c)) (start c .args .values .now) (l .n) (l .values) (l .set) (c .clause-in .result .now)
+looked c =
+    let s = start c in
+    let n = c .before .before .loop .n in
+    record {
+      within =
+          rw (length-callClauses (s .args .entries .now) (s .args .constraint .now) (s .args .total) (s .pre .total-most)) (c .before .loop-test .taken);
+      here =
+          getD-callClauses (s .args .entries .now) (s .args .constraint .now) (s .args .total) n (c .before .loop-test .taken) ∙
+          ap (clauseAt (s .args .entries .now) (s .args .constraint .now)) (sym (add-one n)) ∙
+          sym {b = clauseAt (s .args .entries .now) (s .args .constraint .now) (n + 1)} (c .clause-in .ensures);
+      so-far = c .before .before .loop .inv;
+    }
 
 -- its literals are of the variables that there are
 up-to : (c : tie.After-clause-in Inv-loop μ-loop) → ClauseUpTo (length (c .before .before .loop .values)) (c .clause-in .result .now)
 up-to c =
-    let start = c .before .before .before .before .before in
+    let s = start c in
     let n = c .before .before .loop .n in
     rw (c .before .before .loop .inv .len, c .clause-in .ensures, add-one n)
-    (clauseAt-up-to (length (start .args .values .now)) (start .args .entries .now) (start .args .constraint .now) n (start .pre .formula .up-to)
-    (start .pre .constraint-up-to)
-    (omega (arith, c .before .loop-test .taken, start .pre .total-most)))
+    (clauseAt-up-to (length (s .args .values .now)) (s .args .entries .now) (s .args .constraint .now) n (s .pre .formula .up-to)
+    (s .pre .constraint-up-to)
+    (omega (arith, c .before .loop-test .taken, s .pre .total-most)))
 
 state-of-requires : tie.Need-state-of-requires Inv-loop μ-loop
 state-of-requires c κs = up-to (c .before)
@@ -82,10 +88,7 @@ same-length c = c .before .before .before .before .before .before .loop .inv .le
 returns : tie.Need-returns Inv-loop μ-loop
 returns c =
     let state = c .before .before in
-    let lookup = state .before .before in
-    let l = lookup .before .before .loop in
-    rounding-false _ _ (l .n) (l .values) (l .set) (lookup .clause-in .result .now) (in-call (lookup .before)) (clause-is lookup) (l .inv)
-    (sym (state .state-of .ensures) ∙ c .enum-told .given .1)
+    rounding-false (looked (state .before .before)) (sym (state .state-of .ensures) ∙ c .enum-told .given .1)
 
 enum-known-l : tie.Need-enum-known-l Inv-loop μ-loop
 enum-known-l c = search needs
@@ -109,11 +112,8 @@ loop-again : tie.Need-loop-again Inv-loop μ-loop
 loop-again c =
     let unit = c .before .before .before .before .before in
     let state = unit .before .before in
-    let lookup = state .before .before in
-    let l = lookup .before .before .loop in
     rw (c .before .before .make-true .ensures)
-    (rounding-unit _ _ (l .n) (l .values) (l .set) (lookup .clause-in .result .now) (in-call (lookup .before)) (clause-is lookup) (l .inv)
-    (unit .l .given .0 .0) (sym (state .state-of .ensures) ∙ unit .l .given .1))
+    (rounding-unit (looked (state .before .before)) (unit .l .given .0 .0) (sym (state .state-of .ensures) ∙ unit .l .given .1))
 
 enum-told-2 : tie.Need-enum-told-2 Inv-loop μ-loop
 enum-told-2 c = search needs
@@ -124,10 +124,7 @@ loop-less-2 c = search needs
 loop-again-2 : tie.Need-loop-again-2 Inv-loop μ-loop
 loop-again-2 c =
     let state = c .before .before in
-    let lookup = state .before .before in
-    let l = lookup .before .before .loop in
-    rounding-true _ _ (l .n) (l .values) (l .set) (lookup .clause-in .result .now) (in-call (lookup .before)) (clause-is lookup) (l .inv)
-    (sym (state .state-of .ensures) ∙ c .enum-told2 .given .1)
+    rounding-true (looked (state .before .before)) (sym (state .state-of .ensures) ∙ c .enum-told2 .given .1)
 
 enum-told-3 : tie.Need-enum-told-3 Inv-loop μ-loop
 enum-told-3 c = search needs
@@ -138,10 +135,7 @@ loop-less-3 c = search needs
 loop-again-3 : tie.Need-loop-again-3 Inv-loop μ-loop
 loop-again-3 c =
     let state = c .before .before in
-    let lookup = state .before .before in
-    let l = lookup .before .before .loop in
-    rounding-undecided _ _ (l .n) (l .values) (l .set) (lookup .clause-in .result .now) (in-call (lookup .before)) (clause-is lookup) (l .inv)
-    (sym (state .state-of .ensures) ∙ c .enum-told3 .given .1)
+    rounding-undecided (looked (state .before .before)) (sym (state .state-of .ensures) ∙ c .enum-told3 .given .1)
 
 same-length-2 : tie.Need-same-length-2 Inv-loop μ-loop
 same-length-2 c = c .before .loop .inv .len
