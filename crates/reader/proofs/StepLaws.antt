@@ -138,7 +138,7 @@ Next h text c l next = After h text c (left h text c) l next
 
 abbrev pub Judges : Header → List ℕ → Cursor → Judged → Step → Type 0
 Judges h text c j (Step.Refused a) = j ≡ refused a
-Judges h text c j Step.Ended = j ≡ accepted (sizes h) []
+Judges h text c j Step.TextEnd = j ≡ accepted (sizes h) []
 Judges h text c j (Step.Store l next) = After h text c j l next
 
 no-rule : (b : Bool) (a : ReadAnswer) (o : Option ReadAnswer) → orNext b a o ≡ none → (b ≡ false) × (o ≡ none)

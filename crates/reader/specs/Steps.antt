@@ -33,7 +33,7 @@ tokenStep (some l) h c from to = entryStep h c from to l
 
 abbrev pub endStep : Bool → ℕ → Step
 endStep true end = Step.Refused (ReadAnswer.ShortText end)
-endStep false end = Step.Ended
+endStep false end = Step.TextEnd
 
 abbrev pub stepAt : List Piece → Header → ℕ → Cursor → Step
 stepAt [] h end c = endStep (ltb (c .clauses) (h .clauses)) end

@@ -27,7 +27,7 @@ pub struct Cursor {
 // What comes next.
 pub enum Step {
     Refused(ReadAnswer),
-    Ended,
+    TextEnd,
     Store(i32, Cursor),
 }
 
@@ -77,7 +77,7 @@ fn next_step(text: &[u8], h: Header, c: Cursor) -> Step
         if c.clauses < h.clauses {
             return Step::Refused(ReadAnswer::ShortText(text.len()));
         }
-        return Step::Ended;
+        return Step::TextEnd;
     }
     let to = find(text, Wanted::Blank, from);
     match token_of(&text[from..to]) {
@@ -103,7 +103,7 @@ pub fn read_tokens(text: &[u8], h: Header, from: usize, entries: &mut [i32]) -> 
             Step::Refused(a) => {
                 return refused(a);
             }
-            Step::Ended => {
+            Step::TextEnd => {
                 return Reading {
                     answer: ReadAnswer::Accepted,
                     vars: h.vars,

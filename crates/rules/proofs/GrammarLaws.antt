@@ -21,7 +21,7 @@ use Rattle.rules.specs.Lists.{any, count, countIf}
 use Rattle.rules.specs.Numbers.{maxEntries}
 use Rattle.rules.specs.Text.{isLf, isBlank, Piece, Sizes, tokensFrom}
 use Rattle.rules.specs.Reading.{accepted, isZero, behind, judge}
-use Rattle.rules.specs.Grammar.{Before, Header, Ended, at-end, at-blank, Body, blanks, token, Text}
+use Rattle.rules.specs.Grammar.{Before, Header, TokenEnd, at-end, at-blank, Body, blanks, token, Text}
 use Rattle.rules.specs.Grammar.{header-only, with-body, ClausesOf, no-clause, clause, Dimacs}
 use Rattle.rules.specs.Refusals.{FirstLine, Say, nothing, one-more}
 use Rattle.rules.proofs.ListLaws.{count-append, eqz-sound, or-left, or-right}
@@ -74,11 +74,11 @@ not-behind-of-clausesOf (clause {n} cl {es} h c) front l back e = inside cl (noZ
 
 -- ---- tokens
 
-stops-of-ended : {bs : List ℕ} → Ended bs → Stops isBlank bs
+stops-of-ended : {bs : List ℕ} → TokenEnd bs → Stops isBlank bs
 stops-of-ended at-end = Stops.at-end
 stops-of-ended (at-blank e) = Stops.at-one (blank-complete e)
 
-ended-of-stops : {bs : List ℕ} → Stops isBlank bs → Ended bs
+ended-of-stops : {bs : List ℕ} → Stops isBlank bs → TokenEnd bs
 ended-of-stops Stops.at-end = at-end
 ended-of-stops (Stops.at-one {b} e) = at-blank (blank-sound b e)
 

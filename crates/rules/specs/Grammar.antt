@@ -67,13 +67,13 @@ pub data Token : List ℕ → ℤ → Type 0 where
   minus : {ds : List ℕ} {n : ℕ} → Numeral ds (suc n) → Token (45 ∷ ds) (negsuc n)
 
 -- a token is ended by a blank or the end of text
-pub data Ended : List ℕ → Type 0 where
-  at-end : Ended []
-  at-blank : {b : ℕ} {bs : List ℕ} → IsBlank b → Ended (b ∷ bs)
+pub data TokenEnd : List ℕ → Type 0 where
+  at-end : TokenEnd []
+  at-blank : {b : ℕ} {bs : List ℕ} → IsBlank b → TokenEnd (b ∷ bs)
 
 pub data Body : List ℕ → List ℤ → Type 0 where
   blanks : {bs : List ℕ} → Blanks bs → Body bs []
-  token : {bs w rest : List ℕ} {l : ℤ} {es : List ℤ} → Blanks bs → Token w l → Ended rest → Body rest es → Body (bs ++ w ++ rest) (l ∷ es)
+  token : {bs w rest : List ℕ} {l : ℤ} {es : List ℤ} → Blanks bs → Token w l → TokenEnd rest → Body rest es → Body (bs ++ w ++ rest) (l ∷ es)
 
 -- the header line ends at LF or the end of text
 pub data Text : List ℕ → ℕ → ℕ → List ℤ → Type 0 where
