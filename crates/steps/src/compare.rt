@@ -22,7 +22,7 @@ pub fn drop_if(status: &mut [u8], i: usize, passes: bool) -> u32
 
 // Drops each candidate whose variable the model gives another value than the first model, and answers how many.
 // Rules out: a forced variable freed; a candidate dropped where both models agree.
-// Required of: calls::after::after_model, by TallyReady.
+// Required of: calls::after::after_model, by ModelReady.
 pub fn compare(first: &[u8], model: &[u8], status: &mut [u8]) -> u32
     requires { ⌜ CompareOver (now first) (now model) (now status) ⌝ }
     ensures { λ r. ⌜ Drops (differs (now (first .entry)) (now (model .entry))) (now (status .entry)) r (now (status .exit)) ⌝ }
