@@ -30,15 +30,15 @@ go-on-requires : tie.Need-go-on-requires
 unfolding startsOf
 go-on-requires c κs =
     record {
-      vars-fit = lit≤ tt;
-      well-formed = record {
-        starts-are = c .before .before .before .find-starts .ensures .starts-are;
-        over = record {
-          entries-up-to = λ l i. absurd (List·Memᴰ·not-nil i);
-          constraint-up-to = record { each = λ l i. absurd (List·Memᴰ·not-nil i) };
-        };
-        total-most = zero-le;
-      };
+      formula =
+          record {
+            vars-fit = lit≤ tt;
+            starts-fit = lit≤ tt;
+            starts-are = c .before .before .before .find-starts .ensures .starts-are;
+            up-to = λ l i. absurd (List·Memᴰ·not-nil i);
+          };
+      constraint-up-to = record { each = λ l i. absurd (List·Memᴰ·not-nil i) };
+      total-most = zero-le;
     }
 
 slice-aggregate-write-all : tie.Need-slice-aggregate-write-all
