@@ -30,7 +30,7 @@ pub struct Made {
 
 // After a model: compare, then flip, and the chunk size is back to 1. The model is read here, before the next call can write it.
 // Rules out: a chunk with a model freed whole; a size that is not back to 1.
-// Required of: next::next_call, by At; backbone::first::settle, with every variable open.
+// Required of: next::next_call, by CallDue; backbone::first::settle, with every variable open.
 pub fn after_model(
     entries: &[i32],
     starts: &[u16],
@@ -85,7 +85,7 @@ pub fn doubled(size: u32, limit: u32) -> u32
 
 // After none: the whole chunk is forced, and the chunk size doubles, up to the limit.
 // Rules out: a variable of the chunk left open; one forced to its other value.
-// Required of: next::next_call, by At.
+// Required of: next::next_call, by CallDue.
 pub fn after_none(
     first: &[u8],
     status: &mut [u8],
@@ -133,7 +133,7 @@ fn answer_of(outcome: Outcome) -> RunAnswer
 
 // A call that drops nothing and ends the run: one row, the statuses stay, and this is what the run returns.
 // Rules out: a stopped call's row that says none; a call not counted.
-// Required of: next::next_call, by At; backbone::first::all_calls, with no row yet.
+// Required of: next::next_call, by CallDue; backbone::first::all_calls, with no row yet.
 pub fn row_only(log: &mut [u32], t: Tally, outcome: Outcome, made: Made) -> Report
     requires { ⌜ RowRoom (now log) t made ⌝ }
     ensures { λ r. ⌜ RowLeft (now (log .entry)) t outcome made r (now (log .exit)) ⌝ }

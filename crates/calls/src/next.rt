@@ -30,7 +30,7 @@ fn lesser(a: u32, b: u32) -> u32
 
 // A call from the forced values, with the constraint of a chunk as the clause after the last one.
 // Rules out: a call on the formula alone; the constraint of the chunk before.
-// Required of: next_call, by At.
+// Required of: next_call, by CallDue.
 fn chunk_call(
     entries: &[i32],
     starts: &[u16],

@@ -13,7 +13,7 @@ ghost use Rattle.formula.specs.Clauses.{ClauseUpTo};
 
 // Whether a clause has a true literal.
 // Rules out: true for the empty clause; false where only the last literal is true.
-// Required of: steps::flip::all_true, by clauseAt-up-to; state_of, which requires it too.
+// Required of: first_false, by clauseAt-up-to; state_of, which requires it too.
 pub fn has_true(clause: &[i32], values: &[u8]) -> bool
     requires { ⌜ ClauseUpTo (length (now values)) (now clause) ⌝ }
     ensures { λ r. ⌜ r ≡ hasTrue (now (values .entry)) (now (clause .entry)) ⌝ }

@@ -1,5 +1,5 @@
-// One meter of tries serves the whole run, docs/RULES.md, "Budget". A try is taken from a meter that is lent; what is left of it is
-// computed by value.
+// One meter of tries serves the whole run, docs/RULES.md, "Budget". A try is charged to a meter that is lent; the meter
+// behind it is computed by value.
 ghost use mathlib.Core.Path.{_≡_};
 ghost use Rattle.search.specs.Meters.{askedOf, afterTry};
 
@@ -9,7 +9,7 @@ pub struct Meter {
     pub spent: u32,
 }
 
-// What a meter gives that is asked for a try.
+// What a meter answers that is asked for a try: the meter behind it, or that the budget is spent.
 pub enum Asked {
     Given(Meter),
     Spent,
@@ -32,7 +32,7 @@ pub fn after_try(meter: Meter) -> Meter
     }
 }
 
-// Takes a try from a meter that is lent.
+// Charges a lent meter with a try.
 // Rules out: a copy that is charged; two tries for one.
 pub fn charge(meter: &mut Meter)
     ensures { λ _. ⌜ now (meter .exit) ≡ afterTry (now (meter .entry)) ⌝ }
@@ -41,7 +41,7 @@ pub fn charge(meter: &mut Meter)
     *meter = after;
 }
 
-// A meter by value is lent for one try, and handed back.
+// The meter charged: it is taken by value, lent for one try, and handed back.
 // Rules out: a meter as it was, with a try left; one spent over the budget.
 pub fn charged(meter: Meter) -> Meter
     ensures { λ r. ⌜ r ≡ afterTry meter ⌝ }
@@ -51,7 +51,7 @@ pub fn charged(meter: Meter) -> Meter
     lent
 }
 
-// A try, unless the budget is spent.
+// Asks a meter for a try, which it gives unless the budget is spent.
 // Rules out: a try at the budget; a try that is not counted.
 pub fn ask_try(meter: Meter) -> Asked
     ensures { λ r. ⌜ r ≡ askedOf meter ⌝ }

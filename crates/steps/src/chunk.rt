@@ -56,7 +56,7 @@ fn force_if(first: &[u8], status: &mut [u8], i: usize, left: u32) -> u32
 
 // Forces the lowest open variables, as many as the chunk has, to their values in the first model.
 // Rules out: one variable more; the opposite value.
-// Required of: calls::after::after_none, by TallyReady.
+// Required of: calls::after::after_none, by NoneReady.
 pub fn force_first(first: &[u8], status: &mut [u8], chunk: u32)
     requires { ⌜ length (now first) ≡ length (now status) ⌝ }
     ensures { λ _. ⌜ now (status .exit) ≡ forceFirst (now (first .entry)) (now (status .entry)) chunk ⌝ }

@@ -1,10 +1,9 @@
 // The constraint of a chunk (docs/RULES.md, "Run"): at least one of its candidates is false.
 ghost use mathlib.Core.Path.{_≡_};
-ghost use Prim.Native.Nat.{pred, _≤_, _<_};
-ghost use lib.ListN.{length};
+ghost use Prim.Native.Nat.{pred, _≤_};
 ghost use Rattle.rules.specs.Meaning.{negated};
-ghost use Rattle.rules.specs.Run.{opens, literalAt};
-ghost use Rattle.steps.specs.Constraint.{PutsAt, ConstraintPut};
+ghost use Rattle.rules.specs.Run.{literalAt};
+ghost use Rattle.steps.specs.Constraint.{PutOver, PutsAt, ConstraintOver, ConstraintPut};
 
 // The literal that is false where a variable has its byte of the first model.
 fn false_literal(v: rules::Var, byte: u8) -> rules::Lit
@@ -21,7 +20,7 @@ fn false_literal(v: rules::Var, byte: u8) -> rules::Lit
 
 // Puts the candidate at an index, negated, at k if it is one and the chunk has room for it; answers how many the chunk has then.
 fn put_if(first: &[u8], status: &[u8], i: usize, chunk: usize, out: &mut [i32], k: usize) -> usize
-    requires { ⌜ (i < length (now first)) × (i < length (now status)) × (length (now status) ≤ 256) × (chunk ≤ length (now out)) ⌝ }
+    requires { ⌜ PutOver i (now first) (now status) chunk (now out) ⌝ }
     ensures { λ r. ⌜ PutsAt i (now (first .entry)) (now (status .entry)) chunk k (now (out .entry)) r (now (out .exit)) ⌝ }
 {
     if status[i] == 0 {
@@ -39,7 +38,7 @@ fn put_if(first: &[u8], status: &[u8], i: usize, chunk: usize, out: &mut [i32], 
 // Rules out: the candidates themselves; a candidate left out.
 // Required of: calls::next::chunk_call, with room for 256 and a chunk of open variables.
 pub fn put_constraint(first: &[u8], status: &[u8], chunk: usize, out: &mut [i32])
-    requires { ⌜ (length (now first) ≡ length (now status)) × (length (now status) ≤ 256) × (chunk ≤ length (now out)) × (chunk ≤ opens (now status)) ⌝ }
+    requires { ⌜ ConstraintOver (now first) (now status) chunk (now out) ⌝ }
     ensures { λ _. ⌜ ConstraintPut (now (first .entry)) (now (status .entry)) chunk (now (out .entry)) (now (out .exit)) ⌝ }
 {
     let mut k: usize = 0;

@@ -3,12 +3,11 @@
 use formula::first_false::FirstFalse;
 use formula::first_false::first_false;
 ghost use mathlib.Core.Path.{_≡_};
-ghost use Prim.Native.Nat.{_≤_, _<_};
 ghost use lib.ListN.{length};
 ghost use Rattle.rules.specs.Meaning.{satisfies, clauses};
 ghost use Rattle.rules.specs.Run.{otherByte};
 ghost use Rattle.formula.specs.Formula.{Formula};
-ghost use Rattle.steps.specs.Flip.{Flips, FlipsAt, CanFlip};
+ghost use Rattle.steps.specs.Flip.{CanFlipOver, CanFlip, FlipAtOver, FlipsAt, FlipOver, Flips};
 
 // Whether all clauses of the formula have a true literal.
 // Rules out: true where only the last clause is false; false for a formula of no clause.
@@ -40,7 +39,7 @@ fn other_byte(byte: u8) -> u8
 // Whether a variable, flipped alone in the model, leaves all clauses of the formula true. The model is afterwards what it was: no
 // flip is kept for the next.
 fn can_flip(entries: &[i32], starts: &[u16], model: &mut [u8], v: rules::Var) -> bool
-    requires { ⌜ Formula (length (now model)) (now entries) (now starts) × (1 ≤ v .0) × (v .0 ≤ length (now model)) ⌝ }
+    requires { ⌜ CanFlipOver (now entries) (now starts) (now model) (v .0) ⌝ }
     ensures { λ r. ⌜ CanFlip (clauses (now (entries .entry))) (v .0) (now (model .entry)) r (now (model .exit)) ⌝ }
 {
     let at = formula::value::index_of(v);
@@ -53,7 +52,7 @@ fn can_flip(entries: &[i32], starts: &[u16], model: &mut [u8], v: rules::Var) ->
 
 // Drops the candidate at an index if its variable can be flipped, and answers 1 if so, else 0.
 fn flip_at(entries: &[i32], starts: &[u16], model: &mut [u8], status: &mut [u8], i: usize) -> u32
-    requires { ⌜ Formula (length (now model)) (now entries) (now starts) × (i < length (now model)) × (i < length (now status)) ⌝ }
+    requires { ⌜ FlipAtOver (now entries) (now starts) (now model) (now status) i ⌝ }
     ensures { λ r. ⌜ FlipsAt (clauses (now (entries .entry))) i (now (model .entry)) (now (status .entry)) r (now (model .exit)) (now (status .exit)) ⌝ }
 {
     if status[i] == 0 {
@@ -68,7 +67,7 @@ fn flip_at(entries: &[i32], starts: &[u16], model: &mut [u8], status: &mut [u8],
 // Rules out: two flips judged at once; a flip that is kept.
 // Required of: calls::after::after_model, which requires it too.
 pub fn flip(entries: &[i32], starts: &[u16], model: &mut [u8], status: &mut [u8]) -> u32
-    requires { ⌜ Formula (length (now model)) (now entries) (now starts) × (length (now model) ≡ length (now status)) ⌝ }
+    requires { ⌜ FlipOver (now entries) (now starts) (now model) (now status) ⌝ }
     ensures { λ r. ⌜ Flips (clauses (now (entries .entry))) (now (model .entry)) (now (status .entry)) r (now (model .exit)) (now (status .exit)) ⌝ }
 {
     let mut dropped: u32 = 0;

@@ -1,8 +1,6 @@
 // The rows of the log (docs/RULES.md, "What comes back").
 ghost use mathlib.Core.Path.{_≡_};
-ghost use Prim.Native.Nat.{_+_, _*_, _≤_};
-ghost use lib.ListN.{length};
-ghost use Rattle.steps.specs.Row.{withRow};
+ghost use Rattle.steps.specs.Row.{RowOver, withRow};
 
 // What a row says of a call: what it ended with, the chunk taken, what compare and flip dropped, and the tries spent by then.
 pub struct Row {
@@ -17,7 +15,7 @@ pub struct Row {
 // Rules out: a row further down; two columns exchanged.
 // Required of: after_model, after_none and row_only of calls::after, which require it too.
 pub fn put_row(log: &mut [u32], calls: u32, tries: u32, row: Row)
-    requires { ⌜ (6 * (calls + 1) ≤ length (now log)) × (tries ≤ row .spent) × (calls ≤ 256) ⌝ }
+    requires { ⌜ RowOver (now log) calls tries row ⌝ }
     ensures { λ _. ⌜ now (log .exit) ≡ withRow (now (log .entry)) calls tries row ⌝ }
 {
     let at = 6 * calls as usize;

@@ -39,7 +39,13 @@ few c = omega (arith, count-le isOpen (c .args .status .now), c .pre .formula .v
 put-constraint-requires : tie.Need-put-constraint-requires
 put-constraint-requires c κs =
     let s = c .before .before .before .before .before .before .before .before .before in
-    omega (arith, few s, s .pre .formula .vars-fit, s .pre .first-len, s .pre .status-len, s .pre .chunk-most)
+    let p = s .pre in
+    record {
+      first-len = p .first-len ∙ sym (p .status-len);
+      vars-fit = omega (arith, p .status-len, p .formula .vars-fit);
+      room = omega (arith, few s);
+      chunk-most = p .chunk-most;
+    }
 
 room : (c : tie.After-put-constraint) → start c .args .chunk ≤ length (c .put-constraint .last .1 .1 .1 .0)
 room c = omega (arith, few (start c), c .put-constraint .kept)

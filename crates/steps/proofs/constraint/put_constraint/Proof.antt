@@ -18,7 +18,16 @@ loop-holds : tie.Need-loop-holds Inv-loop μ-loop
 loop-holds c = putting-start _ _ _ _
 
 put-if-requires : tie.Need-put-if-requires Inv-loop μ-loop
-put-if-requires c κs = omega (arith, c .before .before .loop .inv .len)
+put-if-requires c κs =
+    let at-loop = c .before .before in
+    let p = at-loop .before .before .before .pre in
+    let here = c .before .loop-test .taken in
+    record {
+      in-first = omega (arith, here, p .first-len);
+      in-status = here;
+      vars-fit = p .vars-fit;
+      room = omega (arith, at-loop .loop .inv .len, p .room);
+    }
 
 add-i : tie.Need-add-i Inv-loop μ-loop
 add-i c = search needs
@@ -31,7 +40,7 @@ loop-again c =
     let at-loop = c .before .before .before .before in
     let s = at-loop .before .before .before in
     let w = at-loop .loop .inv in
-    putting-step (s .pre .0) (omega (arith, w .len, s .pre)) w (c .before .before .before .loop-test .taken) (c .before .put-if .ensures)
+    putting-step (s .pre .first-len) (omega (arith, w .len, s .pre)) w (c .before .before .before .loop-test .taken) (c .before .put-if .ensures)
 
 same-length : tie.Need-same-length Inv-loop μ-loop
 same-length c = c .before .loop .inv .len
@@ -40,7 +49,7 @@ returns : tie.Need-returns Inv-loop μ-loop
 returns c =
     let s = c .before .before .before .before in
     let w = c .before .loop .inv in
-    putting-done (s .pre .0) (s .pre .3) (omega (arith, w .len, s .pre)) w (c .loop-test .left)
+    putting-done (s .pre .first-len) (s .pre .chunk-most) (omega (arith, w .len, s .pre)) w (c .loop-test .left)
 
 pub put-constraint-spec : {M : Type 1} → statement M
 put-constraint-spec =

@@ -27,7 +27,12 @@ flip-at-requires c κs =
     let at-loop = c .before .before .before in
     let s = at-loop .before .before .before .before in
     let w = at-loop .loop .inv in
-    (rw (w .model-same) (s .pre .0), rw (w .model-same) (omega (arith, w .filtering .len, s .pre .1)), c .before .before .loop-test .taken)
+    let here = c .before .before .loop-test .taken in
+    record {
+      formula = rw (w .model-same) (s .pre .formula);
+      in-model = rw (w .model-same) (omega (arith, here, w .filtering .len, s .pre .len));
+      in-status = here;
+    }
 
 loop-again : tie.Need-loop-again Inv-loop μ-loop
 loop-again c =
@@ -37,7 +42,7 @@ loop-again c =
 add-dropped : tie.Need-add-dropped Inv-loop μ-loop
 add-dropped c =
     let s = c .before .before .before .before .before .before .before .before .before .before .before .before in
-    omega (arith, loop-again c .filtering .counted, count-le isOpen (s .args .status .now), s .pre .0 .vars-fit, s .pre .1)
+    omega (arith, loop-again c .filtering .counted, count-le isOpen (s .args .status .now), s .pre .formula .vars-fit, s .pre .len)
 
 add-i : tie.Need-add-i Inv-loop μ-loop
 add-i c = search needs
