@@ -11,17 +11,8 @@ use Rattle.rules.specs.Meaning.{Clause}
 use Rattle.formula.specs.Clauses.{ClauseUpTo}
 use Rattle.formula.specs.Starts.{clauseAt, callClauses}
 use Rattle.formula.proofs.ClauseLaws.{length-callClauses, getD-callClauses, clauseAt-up-to}
-use Rattle.search.proofs.RoundLaws.{
-  Rounding,
-  Looked,
-  rounding-start,
-  rounding-false,
-  rounding-unit,
-  rounding-true,
-  rounding-undecided,
-  rounding-done,
-  unit-up-to,
-}
+use Rattle.search.proofs.RoundLaws.{Rounding, Looked, rounding-start, rounding-false, rounding-unit, rounding-true, rounding-undecided}
+use Rattle.search.proofs.RoundLaws.{rounding-done, unit-up-to}
 use Rattle.search.proofs.close.round.Statement.{statement}
 use Rattle.search.proofs.close.round.Tie as tie
 

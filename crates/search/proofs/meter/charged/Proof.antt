@@ -17,59 +17,10 @@ use prog.Wp.{Heap, Calls, Loops, WpFn, Tables}
 use ghost.Atoms.{Atoms, sem}
 use contract.Monad.{Fun, fact}
 use contract.Running.{givenOf, tables, tablesOf}
-use types.Kit.{
-  Given,
-  ‵,
-  raw,
-  _⊛_,
-  some,
-  later,
-  _$_,
-  _∵_,
-  !,
-  qed,
-  by,
-  move,
-  keep,
-  use1,
-  use2,
-  use3,
-  split,
-  join,
-  pick,
-  fsplit,
-  fjoin,
-  fpick,
-  fpack,
-  feqL,
-  suffices,
-  frame,
-  await,
-  done,
-}
-use types.Run.{
-  look,
-  init,
-  forget,
-  stop,
-  from,
-  load,
-  addr,
-  of-opd,
-  and-then,
-  no-more,
-  assigns,
-  land,
-  returns,
-  enter,
-  alloc1,
-  alloc0,
-  params1,
-  pass1,
-  pass0,
-  free1,
-  free0,
-}
+use types.Kit.{Given, ‵, raw, _⊛_, some, later, _$_, _∵_, !, qed, by, move, keep, use1, use2, use3, split, join, pick, fsplit, fjoin, fpick}
+use types.Kit.{fpack, feqL, suffices, frame, await, done}
+use types.Run.{look, init, forget, stop, from, load, addr, of-opd, and-then, no-more, assigns, land, returns, enter, alloc1, alloc0, params1}
+use types.Run.{pass1, pass0, free1, free0}
 use types.SemTy.{Body}
 use types.Tokens.{lft-new, lft-end}
 use sound.WpLaws.{FmC, fmOf, WpFn-mono}
