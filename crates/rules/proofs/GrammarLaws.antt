@@ -6,7 +6,7 @@
 --   Says, says-of-say             tokens that say entries, up to a `%` or the last one
 --   no-blanks, blanks-cons, body-blank     a blank may be put in front of a body
 --   body-of-says, says-of-body    such tokens, and the text behind the header line
---   stops-of-line-end             where a line ends
+--   stops-of-ended, stops-of-line-end     where a token ends, and a line
 --   Parts, parts-of-text, text-of-parts     a text as the lines before the header, the header line, and the rest
 --   dimacs-of-whole, whole-of-dimacs     a text with nothing to refuse
 --   accepted-sound, accepted-complete    the theorem
@@ -78,7 +78,7 @@ not-behind-of-clausesOf (clause {n} cl {es} h c) front l back e = inside cl (noZ
 
 -- ---- tokens
 
-stops-of-ended : {bs : List ℕ} → Ended bs → Stops isBlank bs
+pub stops-of-ended : {bs : List ℕ} → Ended bs → Stops isBlank bs
 stops-of-ended at-end = Stops.at-end
 stops-of-ended (at-blank e) = Stops.at-one (blank-complete e)
 

@@ -11,6 +11,7 @@ pub mod HeaderLaws
 pub mod JudgeLaws
 pub mod VerdictLaws
 pub mod GrammarLaws
+pub mod CommentTheorems
 pub mod PlainLaws
 pub mod RefusalLaws
 pub mod ReadingTheorems
