@@ -5,7 +5,7 @@
 --   tokens-nil, tokens-blank, tokens-comment, tokens-word     one step over a text
 --   tokens-blanks                 blanks before what is no comment
 --   Split, split                  a text up to the first byte that passes
---   wordsOn, words-tokensFrom     the tokens without their places, line by line
+--   bytesOf, wordsOn              tokens without their places; those of whole lines
 --   words-lf                      the tokens before an LF and those behind it
 --   words-comment, words-tokens   lines that begin with a comment; with a token
 --
@@ -28,9 +28,12 @@ use Rattle.rules.proofs.CutLaws.{Word, wordsFrom, wordsFrom-blanks, wor
 abbrev tokensOn : ℕ → List (List ℕ) → List Piece
 tokensOn at yss = joined (map tokensIn (linesRead (placedFrom at yss)))
 
+abbrev isRead : Piece → Bool
+isRead line = not (isComment (line .bytes))
+
 -- the tokens of whole lines
 abbrev tokensLater : ℕ → List (List ℕ) → List Piece
-tokensLater at yss = joined (map tokensIn (keep (λ l. not (isComment (l .bytes))) (placedFrom at yss)))
+tokensLater at yss = joined (map tokensIn (keep isRead (placedFrom at yss)))
 
 -- ---- whether the first of some lines is a comment
 
@@ -174,7 +177,7 @@ bytes-later at [] = refl
 bytes-later at (l ∷ ls) = go (not (isComment l)) (bytes-later (at + length l + 1) ls)
   where
     go : (t : Bool) → bytesOf (tokensLater (at + length l + 1) ls) ≡ wordsOn ls
-        → bytesOf (joined (map tokensIn (keepIf t (record { at = at; bytes = l }) (keep (λ z. not (isComment (z .bytes))) (placedFrom (at + length l + 1) ls)))))
+        → bytesOf (joined (map tokensIn (keepIf t (record { at = at; bytes = l }) (keep isRead (placedFrom (at + length l + 1) ls)))))
         ≡ joined (map wordsIn (keepIf t l (keep (λ z. not (isComment z)) ls)))
     go true ih =
         bytesOf-append (wordsFrom isBlank at l) (tokensLater (at + length l + 1) ls) ∙

@@ -15,7 +15,7 @@ use Prim.Native.Nat.{ℕ, _≤_}
 use native.Mathlib.Omega.{arith}
 use lib.IntN.{ℤ}
 use lib.ListN.{length, length-append}
-use Rattle.rules.specs.Lists.{any, cut}
+use Rattle.rules.specs.Lists.{any}
 use Rattle.rules.specs.Numbers.{maxText, maxEntries}
 use Rattle.rules.specs.Text.{isLf, isEmpty, Piece, tokensFrom}
 use Rattle.rules.specs.Reading.{endOf}
@@ -25,9 +25,9 @@ use Rattle.rules.proofs.ListLaws.{apart, never}
 use Rattle.rules.proofs.ByteLaws.{noLf-complete}
 use Rattle.rules.proofs.TokenLaws.{any-append-right}
 use Rattle.rules.proofs.LineLaws.{Front, first-line-complete, first-line-unique, drop-endOf}
-use Rattle.rules.proofs.BodyLaws.{bytesOf, wordsOn, words-lf, words-comment, words-tokens, tokens-word}
+use Rattle.rules.proofs.BodyLaws.{bytesOf, words-lf, words-comment, words-tokens, tokens-word}
 use Rattle.rules.proofs.HeaderLaws.{header-not-skipped, header-no-lf}
-use Rattle.rules.proofs.VerdictLaws.{Whole, tokensOf}
+use Rattle.rules.proofs.VerdictLaws.{tokensOf}
 use Rattle.rules.proofs.GrammarLaws.{Says, none-more, says-one, says-end, says-of-whole, body-of-says, says-of-body, stops-of-line-end}
 use Rattle.rules.proofs.GrammarLaws.{stops-of-ended, Parts, parts-of-text, whole-of-dimacs}
 

@@ -283,7 +283,9 @@ dimacs-of-whole {text} {s} {es} w =
           is-header = w .headed .is-header;
           ends = line-end-of-stops (found .stops);
           is-text = found .is-text;
-          body = body-of-says (endOf (w .line)) (found .rest) (subst (λ (xs : List ℕ). Says (tokensFrom (endOf (w .line)) xs) es) (drop-endOf found) (says-of-whole w));
+          body =
+              body-of-says (endOf (w .line)) (found .rest)
+              (subst (λ (xs : List ℕ). Says (tokensFrom (endOf (w .line)) xs) es) (drop-endOf found) (says-of-whole w));
         }
 
 pub whole-of-dimacs : {room : ℕ} {text : List ℕ} {vars clauses : ℕ} {es : List ℤ} → maxEntries ≤ room → Dimacs text vars clauses es

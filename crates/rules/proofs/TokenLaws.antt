@@ -21,7 +21,8 @@ use lib.IntN.{ℤ, pos, negsuc}
 use lib.ListN.{length}
 use borrow.Author.Tests.{eqb-true, ne-eqb, leb-true, le-leb}
 use Rattle.rules.specs.Lists.{any, all}
-use Rattle.rules.specs.Text.{isLf, isGap, isBlank, isDigit, isNumeral, numeral, Piece, isComment, isSkipped, isPercent, negativeOf, entryIf, signedIf, entryOf}
+use Rattle.rules.specs.Text.{isLf, isGap, isBlank, isDigit, isNumeral, numeral, Piece, isComment, isSkipped, isPercent}
+use Rattle.rules.specs.Text.{negativeOf, entryIf, signedIf, entryOf}
 use Rattle.rules.specs.Grammar.{NoLf, Skipped, blanks, comment, Digits, Numeral, Token, plain, minus}
 use Rattle.rules.proofs.ListLaws.{apart, never, not-true, and-left, and-right, all-sound, all-complete, any-of-none, any-append, or-right, eqs-sound}
 use Rattle.rules.proofs.ByteLaws.{blanks-sound, blanks-complete, noLf-sound, noLf-complete, digits-sound, digits-complete}

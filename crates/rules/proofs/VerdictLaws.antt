@@ -16,7 +16,7 @@ use mathlib.Core.List.{List, [], _∷_, _++_, append-nil}
 use mathlib.Core.Option.{Option, none, some}
 use Prim.Native.Nat.{ℕ, _+_, _≤_, _<_}
 use native.Mathlib.Omega.{arith}
-use lib.Dec.{leb, ltb}
+use lib.Dec.{leb}
 use lib.IntN.{ℤ}
 use lib.ListN.{length, drop}
 use borrow.Author.Tests.{leb-true, le-leb, lt-ltb, le-ltb}
@@ -24,7 +24,7 @@ use Rattle.rules.specs.declared.ReadAnswer.{ReadAnswer}
 use Rattle.rules.specs.Lists.{all, count}
 use Rattle.rules.specs.Numbers.{maxText, maxVars, maxClauses, maxEntries}
 use Rattle.rules.specs.Text.{Piece, Sizes, linesOf, tokensFrom, isSkipped, headerOf}
-use Rattle.rules.specs.Reading.{Judged, accepted, refused, isZero, endOf, fits, judgeEnd, judgeTokens, judgeHeader, judgeLines, judge}
+use Rattle.rules.specs.Reading.{Judged, accepted, refused, isZero, endOf, fits, judgeTokens, judgeHeader, judgeLines, judge}
 use Rattle.rules.specs.Grammar.{Header}
 use Rattle.rules.specs.Refusals.{Begun, FirstLine, Headed, Fine, AtToken, Refuses, short-buffer, long-text, no-header}
 use Rattle.rules.specs.Refusals.{bad-header, large-header, bad-token, token-behind, token-over-vars, many-tokens, short-text}
