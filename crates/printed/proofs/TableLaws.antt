@@ -41,17 +41,17 @@ use Rattle.rules.proofs.RefusalLaws.{refusal-sound}
 use Rattle.rules.proofs.PrintedLaws.{table-runs}
 use Rattle.rules.proofs.TableLaws.{length-tableOf}
 use Rattle.lines.specs.Put.{Room, Put}
-use Rattle.printed.specs.Table.{listGiven, tableOfList, Sized, Ended, TableReady}
+use Rattle.printed.specs.Table.{listGiven, tableOfList, Sized, Ran, TableReady}
 use Rattle.lines.proofs.PutLaws.{putAt-front, room-first, room-same}
 
 -- ---- by the number of the answer
 
-pub table-first : (a : RunAnswer) (vars : ℕ) (r : Report) (ss : List ℕ) → Ended a → runNumber a ≡ 20 → tableBy a vars r ss ≡ answerLine vars r
+pub table-first : (a : RunAnswer) (vars : ℕ) (r : Report) (ss : List ℕ) → Ran a → runNumber a ≡ 20 → tableBy a vars r ss ≡ answerLine vars r
 table-first a vars r ss (inl e) h = absurd (omega (arith, ap runNumber e, h))
 table-first a vars r ss (inr (inl e)) h = ap (λ (b : RunAnswer). tableBy b vars r ss) e
 table-first a vars r ss (inr (inr e)) h = absurd (omega (arith, ap runNumber e, h))
 
-pub table-lines : (a : RunAnswer) (vars : ℕ) (r : Report) (ss : List ℕ) → Ended a
+pub table-lines : (a : RunAnswer) (vars : ℕ) (r : Report) (ss : List ℕ) → Ran a
     → runNumber a ≢ 20 → tableBy a vars r ss ≡ answerLine vars r ++ statusLines 1 ss
 table-lines a vars r ss (inl e) h = ap (λ (b : RunAnswer). tableBy b vars r ss) e
 table-lines a vars r ss (inr (inl e)) h = absurd (h (ap runNumber e))
@@ -60,7 +60,7 @@ table-lines a vars r ss (inr (inr e)) h = ap (λ (b : RunAnswer). tableBy b vars
 pub table-room : {vars : ℕ} {r : Report} {ss out : List ℕ} → TableReady vars r ss out → Room 0 (answerLine vars r) out
 table-room {vars} {r} {ss} {out} w = go (w .ended)
   where
-    go : Ended (r .answer) → Room 0 (answerLine vars r) out
+    go : Ran (r .answer) → Room 0 (answerLine vars r) out
     go (inl e) =
         room-first (answerLine vars r) (statusLines 1 ss) (room-same (ap (λ (b : RunAnswer). tableBy b vars r ss) e) (w .room))
     go (inr (inl e)) = room-same (ap (λ (b : RunAnswer). tableBy b vars r ss) e) (w .room)

@@ -37,12 +37,12 @@ pub record Sized (vars : ℕ) (status log : List ℕ) : Type 0 where
   pub log-len : length log ≡ logLength vars
 
 -- the run was not refused
-abbrev pub Ended : RunAnswer → Type 0
-Ended a = (a ≡ RunAnswer.Settled) ⊎ ((a ≡ RunAnswer.NoModel) ⊎ (a ≡ RunAnswer.Stopped))
+abbrev pub Ran : RunAnswer → Type 0
+Ran a = (a ≡ RunAnswer.Settled) ⊎ ((a ≡ RunAnswer.NoModel) ⊎ (a ≡ RunAnswer.Stopped))
 
 -- a run that is over, its statuses, and room for its table
 pub record TableReady (vars : ℕ) (r : Report) (ss out : List ℕ) : Type 0 where
-  pub ended : Ended (r .answer)
+  pub ended : Ran (r .answer)
   pub counted : r .forced + r .free ≤ vars
   pub vars-fit : length ss ≤ maxVars
   pub room : Room 0 (tableOfRun vars r ss) out

@@ -119,7 +119,7 @@ module _ (h : Header) (text : List ℕ) (c : Cursor) where
       pub step-short : c .clauses < h .clauses → Steps h text c (Step.Refused (ReadAnswer.ShortText (length text)))
       step-short k = record { judges = none-left ∙ ap (λ (t : Bool). judgeEnd t (sizes h) (length text)) (lt-ltb (c .clauses) (h .clauses) k) }
 
-      pub step-end : h .clauses ≤ c .clauses → Steps h text c Step.Ended
+      pub step-end : h .clauses ≤ c .clauses → Steps h text c Step.TextEnd
       step-end k = record { judges = none-left ∙ ap (λ (t : Bool). judgeEnd t (sizes h) (length text)) (le-ltb (c .clauses) (h .clauses) k) }
 
     -- one stands up to `to`
@@ -138,7 +138,7 @@ module _ (h : Header) (text : List ℕ) (c : Cursor) where
           ap (judgeTokens (sizes h) (length text) (c .clauses) (c .entries))
           (sym (s .passed .same) ∙ tokens-here text from to l (s .no-blank l) e)
 
-      pub step-percent : endsText (sizes h) (c .clauses) word ≡ true → Steps h text c Step.Ended
+      pub step-percent : endsText (sizes h) (c .clauses) word ≡ true → Steps h text c Step.TextEnd
       step-percent t = record { judges = token-left ∙ rw t }
 
       judged : endsText (sizes h) (c .clauses) word ≡ false → {o : Option ℤ} → entryOf word ≡ o

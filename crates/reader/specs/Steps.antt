@@ -49,7 +49,7 @@ pub record After (h : Header) (text : List ℕ) (c : Cursor) (j : Judged) (l : �
 
 abbrev pub Judges : Header → List ℕ → Cursor → Judged → Step → Type 0
 Judges h text c j (Step.Refused a) = j ≡ refused a
-Judges h text c j Step.Ended = j ≡ accepted (sizes h) []
+Judges h text c j Step.TextEnd = j ≡ accepted (sizes h) []
 Judges h text c j (Step.Store l next) = After h text c j l next
 
 -- the step at the cursor

@@ -30,7 +30,7 @@ pub struct Cursor {
 // What comes next.
 pub enum Step {
     Refused(ReadAnswer),
-    Ended,
+    TextEnd,
     Store(i32, Cursor),
 }
 
@@ -90,11 +90,11 @@ fn next_step(text: &[u8], h: Header, c: Cursor) -> Step
         if c.clauses < h.clauses {
             return Step::Refused(ReadAnswer::ShortText(text.len()));
         }
-        return Step::Ended;
+        return Step::TextEnd;
     }
     let to = find(text, Wanted::Blank, from);
     if ends_text(h, c, &text[from..to]) {
-        return Step::Ended;
+        return Step::TextEnd;
     }
     match token_of(&text[from..to]) {
         Token::Malformed => Step::Refused(ReadAnswer::BadToken(from)),
@@ -119,7 +119,7 @@ pub fn read_tokens(text: &[u8], h: Header, from: usize, entries: &mut [i32]) -> 
             Step::Refused(a) => {
                 return refused(a);
             }
-            Step::Ended => {
+            Step::TextEnd => {
                 return Reading {
                     answer: ReadAnswer::Accepted,
                     vars: h.vars,

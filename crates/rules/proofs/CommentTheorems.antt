@@ -19,7 +19,7 @@ use Rattle.rules.specs.Lists.{any}
 use Rattle.rules.specs.Numbers.{maxText, maxEntries}
 use Rattle.rules.specs.Text.{isLf, isEmpty, Piece, tokensFrom}
 use Rattle.rules.specs.Reading.{endOf}
-use Rattle.rules.specs.Grammar.{NoLf, Before, Header, Token, Ended, LineEnd, Body, Text, WithHeader, with-header, Dimacs}
+use Rattle.rules.specs.Grammar.{NoLf, Before, Header, Token, TokenEnd, LineEnd, Body, Text, WithHeader, with-header, Dimacs}
 use Rattle.rules.specs.Refusals.{FirstLine}
 use Rattle.rules.proofs.ListLaws.{apart, never}
 use Rattle.rules.proofs.ByteLaws.{noLf-complete}
@@ -168,7 +168,7 @@ comment-line cs back {vars} {clauses} {es} (with-header {a} {h} {rest} b k e) n 
 -- ---- a closing `%`
 
 -- r, or what has the same tokens as r, is a body
-body-percent : (r tail : List ℕ) {rest : List ℕ} {es : List ℤ} → Ended tail → bytesOf (tokensFrom 0 rest) ≡ bytesOf (tokensFrom 0 r) → Body rest es
+body-percent : (r tail : List ℕ) {rest : List ℕ} {es : List ℤ} → TokenEnd tail → bytesOf (tokensFrom 0 rest) ≡ bytesOf (tokensFrom 0 r) → Body rest es
     → Body (r ++ 10 ∷ 37 ∷ tail) es
 body-percent r tail {rest} e q y =
     let t = r ++ 10 ∷ 37 ∷ tail in
@@ -193,7 +193,7 @@ split-last (x ∷ xs) (t ∷ text) b rest e = go (split-last xs text b rest (cc)
     go (inr (r, q, s)) = let same : t ≡ x = cc in inr (r, q, ap₂ (λ (y : ℕ) (ys : List ℕ). y ∷ ys) same s)
 
 -- behind a text, whether or not LF ends it
-pub percent-line : (text tail : List ℕ) {vars clauses : ℕ} {es : List ℤ} → Ended tail → length (text ++ 10 ∷ 37 ∷ tail) ≤ maxText
+pub percent-line : (text tail : List ℕ) {vars clauses : ℕ} {es : List ℤ} → TokenEnd tail → length (text ++ 10 ∷ 37 ∷ tail) ≤ maxText
     → Dimacs text vars clauses es ⊎ Dimacs (text ++ 10 ∷ []) vars clauses es → Dimacs (text ++ 10 ∷ 37 ∷ tail) vars clauses es
 percent-line text tail {vars} {clauses} {es} e m d = go d
   where

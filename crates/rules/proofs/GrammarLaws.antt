@@ -24,7 +24,7 @@ use Rattle.rules.specs.Lists.{any, all, count, countIf}
 use Rattle.rules.specs.Numbers.{maxEntries}
 use Rattle.rules.specs.Text.{isLf, isBlank, isDigit, isComment, Piece, Sizes, tokensFrom}
 use Rattle.rules.specs.Reading.{accepted, isZero, endOf, judge}
-use Rattle.rules.specs.Grammar.{IsBlank, Blanks, Before, Header, Token, plain, minus, Ended, at-end, at-blank, LineEnd}
+use Rattle.rules.specs.Grammar.{IsBlank, Blanks, Before, Header, Token, plain, minus, TokenEnd, at-end, at-blank, LineEnd}
 use Rattle.rules.specs.Grammar.{Body, blanks, comment, token, percent, Text, ClausesOf, no-clause, clause, Dimacs}
 use Rattle.rules.specs.Refusals.{FirstLine, Say, nothing, one-more}
 use Rattle.rules.proofs.ListLaws.{never, and-left, count-append, eqz-sound, or-left, or-right}
@@ -78,11 +78,11 @@ not-behind-of-clausesOf (clause {n} cl {es} h c) front l back e = inside cl (noZ
 
 -- ---- tokens
 
-pub stops-of-ended : {bs : List ℕ} → Ended bs → Stops isBlank bs
+pub stops-of-ended : {bs : List ℕ} → TokenEnd bs → Stops isBlank bs
 stops-of-ended at-end = Stops.at-end
 stops-of-ended (at-blank e) = Stops.at-one (blank-complete e)
 
-ended-of-stops : {bs : List ℕ} → Stops isBlank bs → Ended bs
+ended-of-stops : {bs : List ℕ} → Stops isBlank bs → TokenEnd bs
 ended-of-stops Stops.at-end = at-end
 ended-of-stops (Stops.at-one {b} e) = at-blank (blank-sound b e)
 

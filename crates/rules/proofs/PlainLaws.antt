@@ -28,7 +28,7 @@ use Rattle.rules.specs.Lists.{In, any, joined}
 use Rattle.rules.specs.Numbers.{maxVars, maxClauses}
 use Rattle.rules.specs.Meaning.{varOf, LitUpTo, Clause, leading, clauses}
 use Rattle.rules.specs.Reading.{isZero}
-use Rattle.rules.specs.Grammar.{IsBlank, Before, Gap, Digits, Numeral, Header, Token, Ended, LineEnd, Body, Text, ClausesOf, Dimacs}
+use Rattle.rules.specs.Grammar.{IsBlank, Before, Gap, Digits, Numeral, Header, Token, TokenEnd, LineEnd, Body, Text, ClausesOf, Dimacs}
 use Rattle.rules.specs.Plain.{decimal, plainEntry, plainClause, plainHeader, plain, entriesOf, Within}
 use Rattle.rules.proofs.ListLaws.{never, none-of-any, any-of-none, eqz-other}
 use Rattle.rules.proofs.ByteLaws.{gaps-sound, noLf-sound, digits-sound, noZero-sound, noZero-complete}
@@ -84,13 +84,13 @@ token-zero = Token.plain {ds = 48 ∷ []} (record { digits = Digits.digit-behind
 
 pub body-plainClause : (cl : Clause) {rest : List ℕ} {es : List ℤ} → ((l : ℤ) → In l cl → varOf l < 10 ^ 9)
     → Body rest es → Body (plainClause cl ++ rest) (cl ++ pos 0 ∷ es)
-body-plainClause [] h w = Body.token no-blanks token-zero (Ended.at-blank IsBlank.lf) (body-blank IsBlank.lf w)
+body-plainClause [] h w = Body.token no-blanks token-zero (TokenEnd.at-blank IsBlank.lf) (body-blank IsBlank.lf w)
 body-plainClause (l ∷ cl) {rest} {es} h w =
     rw (append-assoc (plainEntry l) (32 ∷ plainClause cl) rest)
     (Body.token
     no-blanks
     (token-plainEntry l (h l (List·Memᴰ·head refl)))
-    (Ended.at-blank IsBlank.space)
+    (TokenEnd.at-blank IsBlank.space)
     (body-blank IsBlank.space (body-plainClause cl (λ k i. h k (List·Memᴰ·tail i)) w)))
 
 pub body-plain : (F : List Clause) → ((cl : Clause) → In cl F → (l : ℤ) → In l cl → varOf l < 10 ^ 9) → Body (joined (map plainClause F)) (entriesOf F)

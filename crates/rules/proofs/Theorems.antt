@@ -17,8 +17,7 @@ use Rattle.rules.specs.Lists.{In, all, count}
 use Rattle.rules.specs.Numbers.{maxText, maxEntries, readNumber, readPlace}
 use Rattle.rules.specs.Text.{Sizes}
 use Rattle.rules.specs.Reading.{readingOf, filled, entriesAfter, Reads}
-use Rattle.rules.specs.Grammar.{NoLf, WithHeader, Dimacs}
-use Rattle.rules.specs.Grammar.{Ended as EndedToken}
+use Rattle.rules.specs.Grammar.{NoLf, TokenEnd, WithHeader, Dimacs}
 use Rattle.rules.specs.Refusals.{Refuses}
 use Rattle.rules.specs.Plain.{decimal, plain, entriesOf, Within}
 use Rattle.rules.specs.Meaning.{Clause, Values, clauses, LitUpTo, Proper}
@@ -105,7 +104,7 @@ pub reader-comment : {front : List ℕ} (cs back : List ℕ) {vars clauses : ℕ
 reader-comment = comments.comment-line
 
 -- An accepted text, whether or not LF ends it, with a line `%` and any bytes behind it is accepted with the same V, C and entries.
-pub reader-percent : (text tail : List ℕ) {vars clauses : ℕ} {es : List ℤ} → EndedToken tail → length (text ++ 10 ∷ 37 ∷ tail) ≤ maxText
+pub reader-percent : (text tail : List ℕ) {vars clauses : ℕ} {es : List ℤ} → TokenEnd tail → length (text ++ 10 ∷ 37 ∷ tail) ≤ maxText
     → Dimacs text vars clauses es ⊎ Dimacs (text ++ 10 ∷ []) vars clauses es → Dimacs (text ++ 10 ∷ 37 ∷ tail) vars clauses es
 reader-percent = comments.percent-line
 

@@ -67,9 +67,9 @@ pub data Token : List ℕ → ℤ → Type 0 where
   minus : {ds : List ℕ} {n : ℕ} → Numeral ds (suc n) → Token (45 ∷ ds) (negsuc n)
 
 -- a token is ended by a blank or the end of text
-pub data Ended : List ℕ → Type 0 where
-  at-end : Ended []
-  at-blank : {b : ℕ} {bs : List ℕ} → IsBlank b → Ended (b ∷ bs)
+pub data TokenEnd : List ℕ → Type 0 where
+  at-end : TokenEnd []
+  at-blank : {b : ℕ} {bs : List ℕ} → IsBlank b → TokenEnd (b ∷ bs)
 
 -- a line is ended by LF or the end of text
 pub data LineEnd : List ℕ → Type 0 where
@@ -80,8 +80,8 @@ pub data LineEnd : List ℕ → Type 0 where
 pub data Body : List ℕ → List ℤ → Type 0 where
   blanks : {bs : List ℕ} → Blanks bs → Body bs []
   comment : {bs cs rest : List ℕ} {es : List ℤ} → Blanks bs → NoLf cs → LineEnd rest → Body rest es → Body (bs ++ 10 ∷ 99 ∷ cs ++ rest) es
-  token : {bs w rest : List ℕ} {l : ℤ} {es : List ℤ} → Blanks bs → Token w l → Ended rest → Body rest es → Body (bs ++ w ++ rest) (l ∷ es)
-  percent : {bs rest : List ℕ} → Blanks bs → Ended rest → Body (bs ++ 37 ∷ rest) []
+  token : {bs w rest : List ℕ} {l : ℤ} {es : List ℤ} → Blanks bs → Token w l → TokenEnd rest → Body rest es → Body (bs ++ w ++ rest) (l ∷ es)
+  percent : {bs rest : List ℕ} → Blanks bs → TokenEnd rest → Body (bs ++ 37 ∷ rest) []
 
 -- the body begins with the LF that ends the header line
 pub data Text : List ℕ → ℕ → ℕ → List ℤ → Type 0 where

@@ -69,7 +69,7 @@ returns-2 c =
     let s = start .args in
     let l = at-loop .loop in
     progress-ended (s .h) (s .text .now) (s .from) (s .entries .now) (start .pre .1) (l .c) (l .entries) (l .inv)
-    (step-says Step.Ended (at-next-step .next-step .ensures) (c .enum-told .given .1))
+    (step-says Step.TextEnd (at-next-step .next-step .ensures) (c .enum-told .given .1))
 
 enum-known-x : tie.Need-enum-known-x Inv-loop μ-loop
 enum-known-x c = search needs
