@@ -57,8 +57,8 @@ enum {
     IGB_LONG_TEXT = 2,         /* the text has over IGB_TEXT_MAX bytes; place IGB_TEXT_MAX */
     IGB_BAD_HEADER = 3,        /* the header is missing or malformed; place: start of that line, or text length */
     IGB_LARGE_HEADER = 4,      /* the header is over IGB_VARS_MAX or IGB_CLAUSES_MAX; place: start of its line */
-    IGB_BAD_TOKEN = 5,         /* a malformed token; here and in the next three the place is its first byte */
-    IGB_TOKEN_BEHIND = 6,      /* a token after the last clause */
+    IGB_BAD_TOKEN = 5,         /* a malformed token, or a % before the last clause; here and in the next three the place is its first byte */
+    IGB_TOKEN_BEHIND = 6,      /* a token after the last clause; a % there ends the text, and nothing behind it is read */
     IGB_TOKEN_OVER_VARS = 7,   /* a variable above the header's number */
     IGB_MANY_TOKENS = 8,       /* one entry more than IGB_ENTRIES_MAX */
     IGB_SHORT_TEXT = 9,        /* the text ends inside a clause or before the last one; place: text length */

@@ -2,7 +2,7 @@
 
 use crate::case::Call;
 use crate::rules::{self, Given, MAX_CLAUSES, MAX_ENTRIES, MAX_TEXT, MAX_VARS};
-use crate::texts::{random_text, text_of, Random};
+use crate::texts::{random_text, text_of, with_comments, with_percent, Random};
 
 const LIMITS: [u32; 5] = [1, 2, 3, 16, 256];
 const TABLE: usize = 4_096;
@@ -36,6 +36,9 @@ fn edge_texts() -> Vec<Vec<u8>> {
         "p cnf 1 1\n000000001 0", "p cnf 1 1\n0000000001 0", "p cnf 1 1\n+1 0", "p cnf 1 1\n1 0 0", "p cnf 1 1\n1 0 %",
         "p cnf 1 1\n999999999 0", "p cnf 1 1\n1 0\nc", "c p cnf 1 1\np cnf 1 2\r\n1 0\t0 ", "p cnf 1 1\r1 0",
         "p\tcnf\t1\t1\t\r\n1 0", "p cnf 2 1\n1 2 2 -1 0",
+        "p cnf 2 1\nc\n1\nc1 2 0\n2 0", "p cnf 2 1\n1 2\n c\n0", "p cnf 2 1\n1 2 0 c", "p cnf 1 1\nc 1 0\n", "p cnf 1 1\n1 0\n\nc x",
+        "p cnf 1 1\n1 0\n%\n0\n\n", "p cnf 1 1\n1 0 % x", "p cnf 1 1\n%\n1 0", "p cnf 1 1\n1 %\n0", "p cnf 1 0\n%\n\0", "p cnf 1 1\n1 0\n%%",
+        "p cnf 1 1\n1 0\n%0", "p cnf 1 1\n1 0\n0\n%", "%\np cnf 1 0", "p cnf 1 0 %", "p cnf 1 0\nc\n%\n1",
     ] {
         texts.push(text.as_bytes().to_vec());
     }
@@ -47,7 +50,7 @@ fn edge_texts() -> Vec<Vec<u8>> {
     texts.extend([ones(MAX_ENTRIES - 1), ones(MAX_ENTRIES), ones(MAX_ENTRIES + 1)]);
     texts.push([ones(MAX_ENTRIES - 1), b"1".to_vec()].concat());
     for len in [MAX_TEXT - 1, MAX_TEXT, MAX_TEXT + 1, 2 * MAX_TEXT] {
-        for mut text in [b"p cnf 1 1\n1 0".to_vec(), b"c ".to_vec(), Vec::new()] {
+        for mut text in [b"p cnf 1 1\n1 0".to_vec(), b"p cnf 1 1\n1 0\n%\nx".to_vec(), b"p cnf 1 0\nc".to_vec(), b"c ".to_vec(), Vec::new()] {
             text.resize(len, b' ');
             texts.push(text);
         }
@@ -284,6 +287,12 @@ fn some_text(r: &mut Random, calls: &mut Vec<Call>) {
         5..=12 => random_text(r),
         _ => dressed(r),
     };
+    if r.below(3) == 0 {
+        with_comments(r, &mut text);
+    }
+    if r.below(3) == 0 {
+        with_percent(r, &mut text);
+    }
     if r.below(2) == 0 {
         for _ in 0..=r.below(3) {
             damaged(r, &mut text);

@@ -49,16 +49,41 @@ fn header(line: &[u8]) -> Option<(usize, usize)> {
     }
 }
 
+/// Where the line that starts at `start` ends: at its LF or the end of text.
+fn line_end(text: &[u8], start: usize) -> usize {
+    text[start..].iter().position(|&b| b == b'\n').map_or(text.len(), |n| start + n)
+}
+
+/// The tokens behind the header line that ends at `end`, each with its place: those of the lines that are no comments.
+fn tokens(text: &[u8], end: usize) -> Vec<(usize, &[u8])> {
+    let mut found = Vec::new();
+    let mut start = end + 1;
+    while start < text.len() {
+        let end = line_end(text, start);
+        if text[start] != b'c' {
+            let mut at = start;
+            for word in text[start..end].split(|&b| is_blank(b)) {
+                if !word.is_empty() {
+                    found.push((at, word));
+                }
+                at += word.len() + 1;
+            }
+        }
+        start = end + 1;
+    }
+    found
+}
+
 pub fn read(text: &[u8]) -> Result<Formula, Refusal> {
     if text.len() > MAX_TEXT {
         return Err((2, MAX_TEXT));
     }
     let mut start = 0;
-    let (vars, clauses, mut at) = loop {
+    let (vars, clauses, end) = loop {
         if start >= text.len() {
             return Err((3, text.len()));
         }
-        let end = text[start..].iter().position(|&b| b == b'\n').map_or(text.len(), |n| start + n);
+        let end = line_end(text, start);
         let line = &text[start..end];
         if line.iter().all(|&b| is_blank(b)) || line[0] == b'c' {
             start = end + 1;
@@ -74,18 +99,10 @@ pub fn read(text: &[u8]) -> Result<Formula, Refusal> {
     };
     let mut entries = Vec::new();
     let mut closed = 0;
-    loop {
-        while at < text.len() && is_blank(text[at]) {
-            at += 1;
-        }
-        if at >= text.len() {
+    for (from, token) in tokens(text, end) {
+        if token == b"%" && closed == clauses {
             break;
         }
-        let from = at;
-        while at < text.len() && !is_blank(text[at]) {
-            at += 1;
-        }
-        let token = &text[from..at];
         let (minus, word) = match token {
             [b'-', rest @ ..] => (true, rest),
             _ => (false, token),

@@ -29,7 +29,48 @@ impl Random {
     }
 }
 
-/// A formula's text, or one with a byte or two changed.
+/// What a changed byte may become.
+const BYTES: &[u8] = b"0123456789- \t\r\npcnfx%\0\xff";
+
+/// Comment lines put behind LFs, the header's among them or not: at the start of a line, or behind a blank, where they are none.
+pub fn with_comments(r: &mut Random, text: &mut Vec<u8>) {
+    for _ in 0..=r.below(3) {
+        let lines: Vec<usize> = (0..text.len()).filter(|&i| text[i] == b'\n').collect();
+        if lines.is_empty() {
+            return;
+        }
+        let at = 1 + lines[r.below(lines.len() as u64) as usize];
+        let comment: &[u8] = match r.below(8) {
+            0 => b"c\n",
+            1 => b"c1 2 0\n",
+            2 => b"c %\n",
+            3 => b"c\t0 x -0\r\n",
+            4 => b"c p cnf 1 1\n\n",
+            5 => b"c\ncc\n",
+            6 => b" c 1\n",
+            _ => b"c no LF behind ",
+        };
+        text.splice(at..at, comment.iter().copied());
+    }
+}
+
+/// A closing `%` line with something behind it, at the end or anywhere else.
+pub fn with_percent(r: &mut Random, text: &mut Vec<u8>) {
+    let at = if r.below(4) == 0 { r.below(text.len() as u64 + 1) as usize } else { text.len() };
+    let end: &[u8] = match r.below(8) {
+        0 => b"\n%\n0\n\n",
+        1 => b"%\n0\n",
+        2 => b" % 1 x",
+        3 => b"\n%",
+        4 => b"\n%\nc\n-0 999 %\xff\0",
+        5 => b"\n%%\n",
+        6 => b" %0\n",
+        _ => b"\n%\r\n%\r\n",
+    };
+    text.splice(at..at, end.iter().copied());
+}
+
+/// A formula's text with comment lines and a closing `%` or without, or one with a byte or two changed.
 pub fn random_text(r: &mut Random) -> Vec<u8> {
     let most = if r.below(8) == 0 { 40 } else { 12 };
     let vars = r.below(most);
@@ -49,11 +90,17 @@ pub fn random_text(r: &mut Random) -> Vec<u8> {
     }
     let mut text = text.into_bytes();
     if r.below(3) == 0 {
+        with_comments(r, &mut text);
+    }
+    if r.below(3) == 0 {
+        with_percent(r, &mut text);
+    }
+    if r.below(3) == 0 {
         for _ in 0..=r.below(2) {
             let at = r.below(text.len() as u64) as usize;
             match r.below(3) {
-                0 => text[at] = b"0123456789- \t\r\npcnfx\0\xff"[r.below(21) as usize],
-                1 => text.insert(at, b"0123456789- \t\r\npcnfx\0\xff"[r.below(21) as usize]),
+                0 => text[at] = BYTES[r.below(BYTES.len() as u64) as usize],
+                1 => text.insert(at, BYTES[r.below(BYTES.len() as u64) as usize]),
                 _ => {
                     text.remove(at);
                 }

@@ -306,10 +306,10 @@ module _ (text : List ℕ) (from to : ℕ) where
 
     pub line-fits :
         fits (sizes h) ≡ true → from ≤ to → to ≤ length text →
-        judgeLineAt text from to ≡ judgeTokens (sizes h) (length text) 0 0 (tokensFrom (to + 1) (drop (to + 1) text))
+        judgeLineAt text from to ≡ judgeTokens (sizes h) (length text) 0 0 (tokensFrom to (drop to text))
     line-fits e low most =
         let long : length line ≡ to - from = length-take-le (to - from) (drop from text) (omega (arith, length-drop from text)) in
-        let next : from + length line + 1 ≡ to + 1 = omega (arith, long) in
+        let next : from + length line ≡ to = omega (arith, long) in
         by-sizes ∙
         ap (λ (t : Bool). judgeSizes t (sizes h) text (pieceOf text from to)) e ∙
         ap (λ (i : ℕ). judgeTokens (sizes h) (length text) 0 0 (tokensFrom i (drop i text))) next

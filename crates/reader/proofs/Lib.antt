@@ -1,5 +1,6 @@
 -- Laws that belong to no one function.
 pub mod ScanLaws
+pub mod SkipLaws
 pub mod NumberLaws
 pub mod LineLaws
 pub mod HeaderLaws

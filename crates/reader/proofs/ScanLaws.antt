@@ -5,7 +5,6 @@
 --   first-le, from-le             it stays within the list, and does not go back
 --   first-none, first-all, first-stops    before what is found none passes; all pass the opposite test; it is found or the end is
 --   words-from, words-none, words-next    separators are passed over; no word is left; the next word and the rest
---   word-lt                       a word has a byte
 --
 -- Assumes nothing.
 use mathlib.Core.Path.{_≡_, refl, sym, _∙_, ap, ap₂, subst}
@@ -122,6 +121,3 @@ module _ (p : ℕ → Bool) where
         word-here from (drop from text) starts (omega (arith, length-drop from text)) ∙
         ap₂ (λ (i : ℕ) (ts : List Piece). record { at = from; bytes = take i (drop from text) } ∷ ts) gap
         (ap₂ (λ (i : ℕ) (ys : List ℕ). wordsFrom p i ys) (sym there) (drop-drop n from text ∙ ap (λ (i : ℕ). drop i text) (sym there)))
-
-    pub word-lt : (to : ℕ) → to ≡ firstFrom p text from → from < length text → from < to
-    word-lt to there h = omega (arith, there, some-byte starts (omega (arith, length-drop from text)))

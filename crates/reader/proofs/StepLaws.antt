@@ -3,30 +3,30 @@
 --
 --   minus-fits, minus-is, plain-is, held, value-back     the entry as the machine holds it
 --   var-is, zero-is               its variable, and whether it closes a clause
---   step-end, step-bad, step-entry     the step at the end of text, at a malformed token, at an entry
---   Judges, step-says             what a step says of what is left of the text
+--   step-short, step-end          the step at the end of text
+--   step-percent, step-bad, step-entry     at a closing `%`, at a malformed token, at an entry
+--   step-of                       a step that is another
+--   step-says                     what a step says of what is left of the text
 --
 -- Assumes nothing.
 use mathlib.Core.Path.{_≡_, refl, sym, _∙_, ap, subst}
-use mathlib.Core.Bool.{Bool, true, false, not}
-use mathlib.Core.List.{List, [], _∷_}
+use mathlib.Core.Bool.{Bool, true, false}
+use mathlib.Core.List.{List}
 use mathlib.Core.Option.{Option, none, some}
 use Prim.Native.Nat.{ℕ, zero, suc, _+_, _-_, _≤_, _<_}
 use native.Mathlib.Omega.{arith}
 use native.Mathlib.Numerals.{add-one}
-use borrow.Author.Tests.{leb-false, ltb-false}
+use borrow.Author.Tests.{leb-false, ltb-false, lt-ltb, le-ltb}
 use lib.Dec.{eqb, leb, ltb, eqb·suc-zero}
 use lib.IntN.{ℤ, pos, negsuc, natAbs, negℤ, _-ℤ_, +ℤ-idl}
-use native.Mathlib.Decide.{decLt}
-use lib.ListN.{length, take, drop}
-use lib.Seq.{length-take-le}
+use lib.ListN.{length, take, drop, drop-of-length-le}
 use mir.Syntax.{w32}
 use mir.Val.{SFits, toZ, ofZ}
 use Rattle.rules.specs.declared.ReadAnswer.{ReadAnswer}
 use Rattle.rules.specs.Lists.{firstOf, orNext, countIf}
 use Rattle.rules.specs.Numbers.{maxEntries}
-use Rattle.rules.specs.Text.{Piece, isBlank, tokensFrom, entryOf}
-use Rattle.rules.specs.Reading.{Judged, accepted, refused, unless, isZero, entryRules, withEntry, judgeToken, judgeEnd, judgeTokens}
+use Rattle.rules.specs.Text.{isBlank, tokensFrom, entryOf}
+use Rattle.rules.specs.Reading.{Judged, unless, isZero, entryRules, withEntry, judgeToken, judgeEnd, endsText, orEnded, judgeTokens}
 use Rattle.reader.specs.declared.token.Entry.{Entry}
 use Rattle.reader.specs.declared.token.Token.{Token}
 use Rattle.reader.specs.declared.header.Header.{Header}
@@ -34,10 +34,13 @@ use Rattle.reader.specs.declared.tokens.Cursor.{Cursor}
 use Rattle.reader.specs.declared.tokens.Step.{Step}
 use Rattle.reader.specs.Scan.{firstFrom}
 use Rattle.reader.specs.Words.{signedValue, valueOf, tokenOf, sizes}
-use Rattle.reader.specs.Steps.{stepIf, entryStep, tokenStep, endStep, stepAt, stepOf, left}
+use Rattle.reader.specs.Skips.{Skips}
+use Rattle.reader.specs.Steps.{stepIf, entryStep, left, Judges, Steps}
 use Rattle.rules.proofs.ListLaws.{apart}
 use Rattle.rules.proofs.BitLaws.{toZ-ofZ-at}
-use Rattle.reader.proofs.ScanLaws.{first-le, from-le, words-none, words-next, word-lt}
+use Rattle.rules.proofs.BodyLaws.{tokens-nil}
+use Rattle.reader.proofs.ScanLaws.{from-le}
+use Rattle.reader.proofs.SkipLaws.{tokens-here, token-lt}
 use Rattle.reader.proofs.TokenLaws.{bad-of-token, entry-of-token}
 
 -- ---- the entry as the machine holds it
@@ -85,75 +88,13 @@ held (negsuc n) h = toZ-ofZ-at (negsuc n) (record { sfits = omega arith })
 pub value-back : (e : Entry) → e .number ≤ 256 → toZ w32 (ofZ w32 (valueOf e)) ≡ valueOf e
 value-back e h = held (valueOf e) (omega (arith, var-is e))
 
--- ---- the step as the code takes it
-
-module _ (h : Header) (text : List ℕ) (c : Cursor) where
-  pub step-end :
-      (from : ℕ) → from ≡ firstFrom (λ b. not (isBlank b)) text (c .at) → length text ≤ from →
-      stepOf h text c ≡ endStep (ltb (c .clauses) (h .clauses)) (length text)
-  unfolding tokensFrom
-  step-end from e l = ap (λ (ts : List Piece). stepAt ts h (length text) c) (words-none isBlank text (c .at) from e l)
-
-  word-long : (from to : ℕ) → to ≡ firstFrom isBlank text from → from < length text → from + length (take (to - from) (drop from text)) ≡ to
-  word-long from to f l =
-      let most : to - from ≤ length (drop from text) = omega (arith, f, first-le isBlank (drop from text)) in
-      omega (arith, f, length-take-le (to - from) (drop from text) most)
-
-  step-token :
-      (from to : ℕ) → from ≡ firstFrom (λ b. not (isBlank b)) text (c .at) → to ≡ firstFrom isBlank text from → from < length text →
-      stepOf h text c ≡ tokenStep (entryOf (take (to - from) (drop from text))) h c from to
-  unfolding tokensFrom
-  step-token from to e f l =
-      ap (λ (ts : List Piece). stepAt ts h (length text) c) (words-next isBlank text (c .at) from e to f l) ∙
-      ap (tokenStep (entryOf (take (to - from) (drop from text))) h c from) (word-long from to f l)
-
-  pub step-bad :
-      (from to : ℕ) → from ≡ firstFrom (λ b. not (isBlank b)) text (c .at) → to ≡ firstFrom isBlank text from → from < length text →
-      tokenOf (entryOf (take (to - from) (drop from text))) ≡ Token.Malformed →
-      stepOf h text c ≡ Step.Refused (ReadAnswer.BadToken from)
-  step-bad from to e f l q =
-      step-token from to e f l ∙ ap (λ (o : Option ℤ). tokenStep o h c from to) (bad-of-token (entryOf (take (to - from) (drop from text))) q)
-
-  pub step-entry :
-      (from to : ℕ) (en : Entry) → from ≡ firstFrom (λ b. not (isBlank b)) text (c .at) → to ≡ firstFrom isBlank text from →
-      from < length text → tokenOf (entryOf (take (to - from) (drop from text))) ≡ Token.Is en →
-      stepOf h text c ≡ entryStep h c from to (valueOf en)
-  step-entry from to en e f l q =
-      step-token from to e f l ∙ ap (λ (o : Option ℤ). tokenStep o h c from to) (entry-of-token (entryOf (take (to - from) (drop from text))) en q)
-
--- ---- what a step says
-
--- the judgement of what is left, after an entry
-pub record After (h : Header) (text : List ℕ) (c : Cursor) (j : Judged) (l : ℤ) (next : Cursor) : Type 0 where
-  pub judged : j ≡ withEntry l (left h text next)
-  pub onward : c .at < next .at
-  pub within : next .at ≤ length text
-  pub count : next .entries ≡ c .entries + 1
-  pub room : c .entries < maxEntries
-  pub var : natAbs l ≤ h .vars
-
--- after an entry that stands next
-abbrev pub Next : Header → List ℕ → Cursor → ℤ → Cursor → Type 0
-Next h text c l next = After h text c (left h text c) l next
-
-abbrev pub Judges : Header → List ℕ → Cursor → Judged → Step → Type 0
-Judges h text c j (Step.Refused a) = j ≡ refused a
-Judges h text c j Step.TextEnd = j ≡ accepted (sizes h) []
-Judges h text c j (Step.Store l next) = After h text c j l next
+-- ---- the step at the cursor
 
 no-rule : (b : Bool) (a : ReadAnswer) (o : Option ReadAnswer) → orNext b a o ≡ none → (b ≡ false) × (o ≡ none)
 no-rule true a o e = apart cc
 no-rule false a o e = (refl, e)
 
 module _ (h : Header) (text : List ℕ) (c : Cursor) where
-  judges-end : Judges h text c (judgeTokens (sizes h) (length text) (c .clauses) (c .entries) []) (stepAt [] h (length text) c)
-  unfolding judgeTokens
-  judges-end = go (ltb (c .clauses) (h .clauses))
-    where
-      go : (t : Bool) → Judges h text c (judgeEnd t (sizes h) (length text)) (endStep t (length text))
-      go true = refl
-      go false = refl
-
   -- an entry that no rule refuses: there is room for it, and its variable is not above V
   kept :
       (l : ℤ) (from : ℕ) → firstOf (entryRules (sizes h) (c .clauses) (c .entries) from l) ≡ none →
@@ -165,66 +106,78 @@ module _ (h : Header) (text : List ℕ) (c : Cursor) where
         ltb-false (h .vars) (natAbs l) (two .0),
       )
 
-  judges-token :
-      (from to : ℕ) (w : List ℕ) → c .at < to → to ≤ length text →
-      Judges h text c (judgeTokens (sizes h) (length text) (c .clauses) (c .entries) (record { at = from; bytes = w } ∷ tokensFrom to (drop to text)))
-      (tokenStep (entryOf w) h c from to)
-  unfolding judgeTokens
-  judges-token from to w lt le = token (entryOf w)
-    where
-      entry :
-          (l : ℤ) (o : Option ReadAnswer) → firstOf (entryRules (sizes h) (c .clauses) (c .entries) from l) ≡ o →
+  -- `from` is where the next token would begin
+  module _ (from : ℕ) (s : Skips text (c .at) from) where
+    -- no token is left
+    module _ (e : length text ≤ from) where
+      none-left : left h text c ≡ judgeEnd (ltb (c .clauses) (h .clauses)) (sizes h) (length text)
+      unfolding judgeTokens
+      none-left =
+          ap (judgeTokens (sizes h) (length text) (c .clauses) (c .entries))
+          (sym (s .passed .same) ∙ ap (tokensFrom from) (drop-of-length-le text e) ∙ tokens-nil from)
+
+      pub step-short : c .clauses < h .clauses → Steps h text c (Step.Refused (ReadAnswer.ShortText (length text)))
+      step-short k = record { judges = none-left ∙ ap (λ (t : Bool). judgeEnd t (sizes h) (length text)) (lt-ltb (c .clauses) (h .clauses) k) }
+
+      pub step-end : h .clauses ≤ c .clauses → Steps h text c Step.TextEnd
+      step-end k = record { judges = none-left ∙ ap (λ (t : Bool). judgeEnd t (sizes h) (length text)) (le-ltb (c .clauses) (h .clauses) k) }
+
+    -- one stands up to `to`
+    module _ (to : ℕ) (e : to ≡ firstFrom isBlank text from) (l : from < length text) where
+      abbrev word : List ℕ
+      word = take (to - from) (drop from text)
+
+      abbrev later : ℕ → Judged
+      later k = judgeTokens (sizes h) (length text) k (suc (c .entries)) (tokensFrom to (drop to text))
+
+      token-left :
+          left h text c
+          ≡ orEnded (endsText (sizes h) (c .clauses) word) (sizes h) (judgeToken (entryOf word) (sizes h) (c .clauses) (c .entries) from (λ k. later k))
+      unfolding judgeTokens
+      token-left =
+          ap (judgeTokens (sizes h) (length text) (c .clauses) (c .entries))
+          (sym (s .passed .same) ∙ tokens-here text from to l (s .no-blank l) e)
+
+      pub step-percent : endsText (sizes h) (c .clauses) word ≡ true → Steps h text c Step.TextEnd
+      step-percent t = record { judges = token-left ∙ rw t }
+
+      judged : endsText (sizes h) (c .clauses) word ≡ false → {o : Option ℤ} → entryOf word ≡ o
+          → left h text c ≡ judgeToken o (sizes h) (c .clauses) (c .entries) from (λ k. later k)
+      judged t q = token-left ∙ rw (t, q)
+
+      pub step-bad :
+          endsText (sizes h) (c .clauses) word ≡ false → tokenOf (entryOf word) ≡ Token.Malformed → Steps h text c (Step.Refused (ReadAnswer.BadToken from))
+      step-bad t q = record { judges = judged t (bad-of-token (entryOf word) q) }
+
+      entry-says :
+          (x : ℤ) (o : Option ReadAnswer) → firstOf (entryRules (sizes h) (c .clauses) (c .entries) from x) ≡ o →
           Judges h text c
-          (unless o (withEntry l (judgeTokens (sizes h) (length text) (countIf (isZero l) (c .clauses)) (suc (c .entries)) (tokensFrom to (drop to text)))))
-          (stepIf o (Step.Store l (record { at = to; clauses = countIf (isZero l) (c .clauses); entries = c .entries + 1 })))
-      entry l none q = record {
+          (unless o (withEntry x (later (countIf (isZero x) (c .clauses)))))
+          (stepIf o (Step.Store x (record { at = to; clauses = countIf (isZero x) (c .clauses); entries = c .entries + 1 })))
+      entry-says x none q = record {
         judged =
-            ap (λ (n : ℕ). withEntry l (judgeTokens (sizes h) (length text) (countIf (isZero l) (c .clauses)) n (tokensFrom to (drop to text))))
+            ap (λ (n : ℕ). withEntry x (judgeTokens (sizes h) (length text) (countIf (isZero x) (c .clauses)) n (tokensFrom to (drop to text))))
             (sym (add-one (c .entries)));
-        onward = lt;
-        within = le;
+        onward = omega (arith, s .passed .onward, token-lt text from to l (s .no-blank l) e);
+        within = omega (arith, e, from-le isBlank text from (omega arith));
         count = refl;
-        room = kept l from q .0;
-        var = kept l from q .1;
+        room = kept x from q .0;
+        var = kept x from q .1;
       }
-      entry l (some a) q = refl
+      entry-says x (some a) q = refl
 
-      token :
-          (o : Option ℤ) →
-          Judges h text c
-          (judgeToken o (sizes h) (c .clauses) (c .entries) from (λ j. judgeTokens (sizes h) (length text) j (suc (c .entries)) (tokensFrom to (drop to text))))
-          (tokenStep o h c from to)
-      token none = refl
-      token (some l) = entry l (firstOf (entryRules (sizes h) (c .clauses) (c .entries) from l)) refl
+      pub step-entry :
+          (en : Entry) → endsText (sizes h) (c .clauses) word ≡ false → tokenOf (entryOf word) ≡ Token.Is en →
+          Steps h text c (entryStep h c from to (valueOf en))
+      step-entry en t q = record {
+        judges =
+            subst (λ (j : Judged). Judges h text c j (entryStep h c from to (valueOf en))) (sym (judged t (entry-of-token (entryOf word) en q)))
+            (entry-says (valueOf en) (firstOf (entryRules (sizes h) (c .clauses) (c .entries) from (valueOf en))) refl);
+      }
 
-  step-judges : Judges h text c (left h text c) (stepOf h text c)
-  unfolding tokensFrom
-  step-judges = go (decLt from (length text))
-    where
-      from : ℕ
-      from = firstFrom (λ b. not (isBlank b)) text (c .at)
+pub step-of : {h : Header} {text : List ℕ} {c : Cursor} {r step : Step} → r ≡ step → Steps h text c step → Steps h text c r
+step-of {h} {text} {c} e s = subst (Steps h text c) (sym e) s
 
-      to : ℕ
-      to = firstFrom isBlank text from
-
-      w : List ℕ
-      w = take (to - from) (drop from text)
-
-      judges : List Piece → Type 0
-      judges ts = Judges h text c (judgeTokens (sizes h) (length text) (c .clauses) (c .entries) ts) (stepAt ts h (length text) c)
-
-      go : Dec (from < length text) → Judges h text c (left h text c) (stepOf h text c)
-      go (yes l) =
-          let lt : from < to = word-lt isBlank text (c .at) from refl to refl l in
-          let le : to ≤ length text = from-le isBlank text from (omega arith) in
-          let long : from + length w ≡ to = word-long h text c from to refl l in
-          let onward : c .at < to = omega (arith, lt) in
-          subst judges (sym (words-next isBlank text (c .at) from refl to refl l))
-          (subst (λ (i : ℕ). Judges h text c
-          (judgeTokens (sizes h) (length text) (c .clauses) (c .entries) (record { at = from; bytes = w } ∷ tokensFrom to (drop to text)))
-          (tokenStep (entryOf w) h c from i)) (sym long)
-          (judges-token from to w onward le))
-      go (no l) = subst judges (sym (words-none isBlank text (c .at) from refl (omega arith))) judges-end
-
-  pub step-says : (s : Step) → stepOf h text c ≡ s → Judges h text c (left h text c) s
-  step-says s e = subst (Judges h text c (left h text c)) e step-judges
+-- what the caller of a step has of it
+pub step-says : {h : Header} {text : List ℕ} {c : Cursor} {r : Step} (s : Step) → Steps h text c r → r ≡ s → Judges h text c (left h text c) s
+step-says {h} {text} {c} s p e = subst (Judges h text c (left h text c)) e (p .judges)

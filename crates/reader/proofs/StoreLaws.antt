@@ -26,16 +26,15 @@ use Rattle.rules.specs.declared.Reading.{Reading}
 use Rattle.rules.specs.Lists.{check, firstOf, countIf}
 use Rattle.rules.specs.Numbers.{maxText, maxEntries}
 use Rattle.rules.specs.Text.{Piece, Sizes, isSkipped, headerOf, entryOf, linesOf, tokensFrom}
-use Rattle.rules.specs.Reading.{Judged, accepted, refused, unless, isZero, withEntry, judgeToken, judgeEnd, judgeTokens, judgeSizes, fits}
+use Rattle.rules.specs.Reading.{Judged, accepted, refused, unless, isZero, withEntry, judgeToken, judgeEnd, endsText, orEnded, judgeTokens, judgeSizes, fits}
 use Rattle.rules.specs.Reading.{judgeHeader, judgeLine, judgeLines, judge, returned, readingOf, filled, written, entriesAfter, Reads}
 use Rattle.rules.proofs.ListLaws.{never}
 use Rattle.rules.proofs.JudgeLaws.{withEntries, withEntries-refused, withEntries-accepted}
 use Rattle.reader.specs.declared.header.Header.{Header}
 use Rattle.reader.specs.declared.tokens.Cursor.{Cursor}
 use Rattle.reader.specs.Words.{sizes}
-use Rattle.reader.specs.Steps.{start, left}
+use Rattle.reader.specs.Steps.{start, left, After}
 use Rattle.reader.specs.Stores.{cleared, listOf, Stores}
-use Rattle.reader.proofs.StepLaws.{After}
 
 -- ---- zeros
 
@@ -176,13 +175,14 @@ late-tokens s end k n [] = go (ltb k (s .clauses))
     go : (t : Bool) → isLate (judgeEnd t s end) ≡ true
     go true = refl
     go false = refl
-late-tokens s end k n (t ∷ ts) = go (entryOf (t .bytes)) (λ j. late-tokens s end j (suc n) ts)
+late-tokens s end k n (t ∷ ts) = go (endsText s k (t .bytes)) (entryOf (t .bytes)) (λ j. late-tokens s end j (suc n) ts)
   where
     go :
-        (o : Option ℤ) → ((j : ℕ) → isLate (judgeTokens s end j (suc n) ts) ≡ true) →
-        isLate (judgeToken o s k n (t .at) (λ j. judgeTokens s end j (suc n) ts)) ≡ true
-    go none ih = refl
-    go (some l) ih =
+        (b : Bool) (o : Option ℤ) → ((j : ℕ) → isLate (judgeTokens s end j (suc n) ts) ≡ true) →
+        isLate (orEnded b s (judgeToken o s k n (t .at) (λ j. judgeTokens s end j (suc n) ts))) ≡ true
+    go true o ih = refl
+    go false none ih = refl
+    go false (some l) ih =
         late-rules (leb (s .clauses) k) (ltb (s .vars) (natAbs l)) (leb maxEntries n) (t .at)
         (withEntry l (judgeTokens s end (countIf (isZero l) k) (suc n) ts))
         (late-entry l (judgeTokens s end (countIf (isZero l) k) (suc n) ts) (ih (countIf (isZero l) k)))
@@ -192,7 +192,7 @@ late-header text line none = refl
 late-header text line (some s) = go (fits s)
   where
     go : (t : Bool) → isLate (judgeSizes t s text line) ≡ true
-    go true = late-tokens s (length text) 0 0 (tokensFrom (line .at + length (line .bytes) + 1) (drop (line .at + length (line .bytes) + 1) text))
+    go true = late-tokens s (length text) 0 0 (tokensFrom (line .at + length (line .bytes)) (drop (line .at + length (line .bytes)) text))
     go false = refl
 
 late-lines : (text : List ℕ) (lines : List Piece) → isLate (judgeLines text lines) ≡ true

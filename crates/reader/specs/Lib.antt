@@ -1,4 +1,5 @@
 pub mod Scan
+pub mod Skips
 pub mod Words
 pub mod Lines
 pub mod Steps

@@ -37,7 +37,8 @@ fn trimmed_len(line: &[u8]) -> usize
 }
 
 // Whether a word is the wanted one, byte by byte.
-fn is_word(word: &[u8], wanted: &[u8]) -> bool
+// Rules out: a longer word that begins as the wanted one.
+pub fn is_word(word: &[u8], wanted: &[u8]) -> bool
     ensures { λ r. ⌜ r ≡ eqs (now (word .entry)) (now (wanted .entry)) ⌝ }
 {
     if word.len() != wanted.len() {

@@ -5,6 +5,7 @@ mod header;
 mod line;
 mod number;
 mod scan;
+mod skip;
 mod store;
 mod token;
 mod tokens;
@@ -41,7 +42,7 @@ fn read_header(text: &[u8], from: usize, to: usize, entries: &mut [i32]) -> Read
     if MAX_VARS < h.vars || MAX_CLAUSES < h.clauses {
         return refused(ReadAnswer::LargeHeader(from));
     }
-    read_tokens(text, h, to + 1, entries)
+    read_tokens(text, h, to, entries)
 }
 
 // From the first line on. What stands in the buffer behind the entries that are counted is left to the caller.

@@ -3,13 +3,16 @@ ghost use mathlib.Core.Path.{_≡_};
 ghost use Prim.Native.Nat.{_≤_};
 ghost use lib.ListN.{length};
 ghost use Rattle.rules.specs.Numbers.{maxVars, maxEntries};
-ghost use Rattle.reader.specs.Words.{valueOf};
-ghost use Rattle.reader.specs.Steps.{entryStep, stepOf, start, left};
+ghost use Rattle.rules.specs.Reading.{endsText};
+ghost use Rattle.reader.specs.Words.{valueOf, sizes};
+ghost use Rattle.reader.specs.Steps.{entryStep, Steps, start, left};
 ghost use Rattle.reader.specs.Stores.{Stores};
 use crate::answer::refused;
 use crate::header::Header;
+use crate::header::is_word;
 use crate::scan::Wanted;
 use crate::scan::find;
+use crate::skip::next_token;
 use crate::token::Entry;
 use crate::token::Token;
 use crate::token::token_of;
@@ -66,13 +69,23 @@ fn judge_entry(h: Header, c: Cursor, from: usize, to: usize, e: Entry) -> Step
     Step::Store(value_of(e), next)
 }
 
+// Whether a token is a `%` behind the last clause: then nothing behind it is read.
+fn ends_text(h: Header, c: Cursor, word: &[u8]) -> bool
+    ensures { λ r. ⌜ r ≡ endsText (sizes h) (c .clauses) (now (word .entry)) ⌝ }
+{
+    if !is_word(word, b"%") {
+        return false;
+    }
+    h.clauses <= c.clauses
+}
+
 // The next token, or the end of text.
 fn next_step(text: &[u8], h: Header, c: Cursor) -> Step
     requires { ⌜ h .vars ≤ maxVars ⌝ }
-    ensures { λ r. ⌜ r ≡ stepOf h (now (text .entry)) c ⌝ }
+    ensures { λ r. ⌜ Steps h (now (text .entry)) c r ⌝ }
 {
     let at = c.at;
-    let from = find(text, Wanted::NoBlank, at);
+    let from = next_token(text, at);
     if text.len() <= from {
         if c.clauses < h.clauses {
             return Step::Refused(ReadAnswer::ShortText(text.len()));
@@ -80,6 +93,9 @@ fn next_step(text: &[u8], h: Header, c: Cursor) -> Step
         return Step::TextEnd;
     }
     let to = find(text, Wanted::Blank, from);
+    if ends_text(h, c, &text[from..to]) {
+        return Step::TextEnd;
+    }
     match token_of(&text[from..to]) {
         Token::Malformed => Step::Refused(ReadAnswer::BadToken(from)),
         Token::Is(e) => judge_entry(h, c, from, to, e),

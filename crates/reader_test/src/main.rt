@@ -110,8 +110,6 @@ fn bad_byte_cases() {
     show(b"nul", b"p cnf 1 1\n\x00 0");
     show(b"nul_behind", b"p cnf 1 1\n1\x00 0");
     show(b"above_127", b"p cnf 1 1\n\x80 0");
-    show(b"comment_behind", b"p cnf 1 1\nc x\n1 0");
-    show(b"percent", b"p cnf 1 1\n1 0\n%\n0\n");
 }
 
 fn no_blank_cases() {
@@ -119,6 +117,45 @@ fn no_blank_cases() {
     show(b"vertical_tab", b"p cnf 1 1\n1\x0b0");
     show(b"form_feed_second", b"p cnf 1 1\n1 \x0c 0");
     show(b"vertical_tab_last", b"p cnf 1 1\n1 0 \x0b");
+}
+
+// Comment lines behind the header.
+fn comment_cases() {
+    show(b"comment_behind", b"p cnf 1 1\nc x\n1 0");
+    show(b"comment_inside", b"p cnf 2 1\n1\nc1 2 0\nc\n2 0\n");
+    show(b"comment_last", b"p cnf 1 1\n1 0\nc x");
+    show(b"comment_any_bytes", b"p cnf 1 1\nc \x00\xff % -0\r\n1 0");
+    show(b"comment_only", b"p cnf 1 1\nc 1 0\n");
+    show(b"comment_for_zero", b"p cnf 1 1\n1\nc 0");
+}
+
+// A `c` that is no line's first byte.
+fn no_comment_cases() {
+    show(b"c_behind_blank", b"p cnf 1 1\n1\n c\n0");
+    show(b"c_behind_token", b"p cnf 1 1\n1 0 c");
+    show(b"c_behind_cr", b"p cnf 1 1\n\rc\n1 0");
+    show(b"c_behind_header", b"p cnf 1 1 c\n1 0");
+    show(b"capital_c", b"p cnf 1 1\nC\n1 0");
+}
+
+// A `%` that ends the text.
+fn percent_cases() {
+    show(b"percent", b"p cnf 1 1\n1 0\n%\n0\n");
+    show(b"percent_last", b"p cnf 1 1\n1 0\n%");
+    show(b"percent_in_line", b"p cnf 1 1\n1 0 % x 9\x00");
+    show(b"percent_c_0", b"p cnf 1 0\n%\n1");
+    show(b"percent_behind_comment", b"p cnf 1 1\n1 0\nc\n%\n1");
+}
+
+// One that does not.
+fn no_percent_cases() {
+    show(b"percent_first", b"p cnf 1 1\n%\n1 0");
+    show(b"percent_inside", b"p cnf 1 1\n1 % 0");
+    show(b"percent_one_less", b"p cnf 1 2\n1 0\n%\n");
+    show(b"percent_twice", b"p cnf 1 1\n1 0\n%%\n");
+    show(b"percent_0", b"p cnf 1 1\n1 0\n%0\n");
+    show(b"6_before_percent", b"p cnf 1 1\n1 0\n0\n%\n");
+    show(b"percent_before_header", b"%\np cnf 1 0\n");
 }
 
 // Tokens that are refused with 6 and 7, and the order 5, 6, 7.
@@ -212,11 +249,20 @@ fn show_blanks(name: &[u8], n: usize) {
     show_front(name, &text, n);
 }
 
+// What is no token, behind `p cnf 0 0` and a closing `%`.
+fn show_behind(name: &[u8], n: usize) {
+    let mut text = [b'x'; 32769];
+    bytes::copy(b"p cnf 0 0\n%\n", &mut text);
+    show_front(name, &text, n);
+}
+
 fn size_cases() {
     show_clauses(b"clauses_1023", 2060);
     show_clauses(b"clauses_1024_whole", 2061);
     show_blanks(b"text_32768", 32768);
     show_blanks(b"text_32769", 32769);
+    show_behind(b"percent_32768", 32768);
+    show_behind(b"percent_32769", 32769);
 }
 
 // How many entries are x.
@@ -295,6 +341,10 @@ fn main() {
     digit_cases();
     bad_byte_cases();
     no_blank_cases();
+    comment_cases();
+    no_comment_cases();
+    percent_cases();
+    no_percent_cases();
     after_last_cases();
     above_cases();
     end_cases();

@@ -6,7 +6,7 @@
 --   Cut, cut-exists, cut-unique   the pieces of a list: the cut is such, and there is no other
 --   placedWords, wordsFrom        the pieces that are not empty, each with its place
 --   Stops, Word, Words            a text as words with separators before, between and behind
---   words-of-cut, words-exists, words-unique     wordsFrom gives such words, and there are no others
+--   words-of-cut, words-unique    wordsFrom gives such words, and there are no others
 --   wordsFrom-blanks, wordsFrom-word     separators are passed over; a word is found
 --   bytes-placedWords             words without their places
 --
@@ -100,9 +100,6 @@ module _ (p : ℕ → Bool) where
   words-of-cut at (piece {xs = []} h e c) = words-skip (omega arith) e (words-of-cut (at + 0 + 1) c)
   words-of-cut at (piece {xs = x ∷ xs} h e c) =
       words-now at x xs h (at-one e) (words-skip (omega arith) e (words-of-cut (at + length (x ∷ xs) + 1) c))
-
-  pub words-exists : (at : ℕ) (xs : List ℕ) → Words p at xs (wordsFrom p at xs)
-  words-exists at xs = words-of-cut at (cut-exists p xs)
 
   pub wordsFrom-blanks : (at : ℕ) (bs xs : List ℕ) → all p bs ≡ true → wordsFrom p at (bs ++ xs) ≡ wordsFrom p (at + length bs) xs
   wordsFrom-blanks at [] xs h = ap (λ (i : ℕ). wordsFrom p i xs) (omega arith)

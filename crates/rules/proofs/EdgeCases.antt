@@ -93,6 +93,29 @@ textEdges =
     -- 6, and 5 before it
     reads (quoted "p cnf 1 1\n1 0 1") (refuses 6 14) ∷
     reads (quoted "p cnf 1 1\n1 0 x") (refuses 5 14) ∷
+    -- comments behind the header: from a line's first byte on, inside a clause too; a `c` behind a blank is a token
+    reads (quoted "p cnf 2 1\nc\n1 2 0\n") (accepts 2 1 3) ∷
+    reads (quoted "p cnf 2 1\n1\nc1 2 0\nc 9 x %\n2 0") (accepts 2 1 3) ∷
+    reads (quoted "p cnf 2 1\n1 2 0\nc") (accepts 2 1 3) ∷
+    reads (quoted "p cnf 2 1\n1 2 0 c") (refuses 5 16) ∷
+    reads (quoted "p cnf 2 1\n1 2\n c 1\n0") (refuses 5 15) ∷
+    reads (quoted "p cnf 2 1 \r\n\rc\n1 2 0") (refuses 5 13) ∷
+    reads (quoted "p cnf 1 1\nc 1 0\n") (refuses 9 16) ∷
+    -- a `%` where C clauses are complete ends the text, whatever stands behind it; elsewhere it is malformed
+    reads (quoted "p cnf 2 1\n1 2 0\n%\n0\n\n") (accepts 2 1 3) ∷
+    reads (quoted "p cnf 2 1\n1 2 0 % x 9 -0") (accepts 2 1 3) ∷
+    reads (quoted "p cnf 2 1\n1 2 0\n%") (accepts 2 1 3) ∷
+    reads (quoted "p cnf 2 0\n%\n1") (accepts 2 0 0) ∷
+    reads (quoted "p cnf 2 1\n%\n1 2 0") (refuses 5 10) ∷
+    reads (quoted "p cnf 2 1\n1 2 % 0") (refuses 5 14) ∷
+    reads (quoted "p cnf 2 1\n1 2 0\n%%") (refuses 5 16) ∷
+    reads (quoted "p cnf 2 1\n1 2 0 %0") (refuses 5 16) ∷
+    reads (quoted "p cnf 2 1\n1 2 0\n0\n%\n") (refuses 6 16) ∷
+    reads (quoted "%\np cnf 2 0\n") (refuses 3 0) ∷
+    -- bytes behind a `%` count for 2
+    reads (quoted "p cnf 0 0\n%" ++ times 32757 (quoted "x")) (refuses 5 10) ∷
+    reads (quoted "p cnf 0 0\n%\n" ++ times 32756 (quoted "x")) (accepts 0 0 0) ∷
+    reads (quoted "p cnf 0 0\n%\n" ++ times 32757 (quoted "x")) (refuses 2 32768) ∷
     -- 7, and 6 before it
     reads (quoted "p cnf 1 1\n1 -2 0") (refuses 7 12) ∷
     reads (quoted "p cnf 1 1\n1 0 2") (refuses 6 14) ∷

@@ -3,34 +3,38 @@
 --
 --   clausesOf-of-passes           entries that pass and complete C clauses are C clauses
 --   count-clausesOf, not-behind-of-clausesOf     C clauses have C zeros, and no entry stands behind the last one
---   body-of-say, say-of-body      tokens that say entries, and the text behind the header
+--   Says, says-of-say             tokens that say entries, up to a `%` or the last one
+--   no-blanks, blanks-cons, body-blank     a blank may be put in front of a body
+--   body-of-says, says-of-body    such tokens, and the text behind the header line
+--   stops-of-ended, stops-of-line-end     where a token ends, and a line
 --   Parts, parts-of-text, text-of-parts     a text as the lines before the header, the header line, and the rest
 --   dimacs-of-whole, whole-of-dimacs     a text with nothing to refuse
 --   accepted-sound, accepted-complete    the theorem
 --
 -- Assumes nothing.
-use mathlib.Core.Path.{_≡_, refl, sym, _∙_, ap, subst, subst₂}
+use mathlib.Core.Path.{_≡_, refl, sym, _∙_, ap, ap₂, subst}
 use mathlib.Core.Bool.{Bool, true, false}
-use mathlib.Core.List.{List, [], _∷_, _++_, append-nil, List·Memᴰ·not-nil}
-use Prim.Native.Nat.{ℕ, suc, _+_, _≤_, _<_}
+use mathlib.Core.List.{List, [], _∷_, _++_, append-nil, append-assoc, List·Memᴰ·not-nil}
+use Prim.Native.Nat.{ℕ, zero, suc, _+_, _≤_, _<_}
 use native.Mathlib.Omega.{arith}
 use lib.IntN.{ℤ, pos}
-use lib.ListN.{length, length-append, drop}
-use borrow.Author.Tests.{eqb-true}
-use Rattle.rules.specs.Lists.{any, count, countIf}
+use lib.ListN.{length, length-append}
+use borrow.Author.Tests.{eqb-true, ne-eqb}
+use Rattle.rules.specs.Lists.{any, all, count, countIf}
 use Rattle.rules.specs.Numbers.{maxEntries}
-use Rattle.rules.specs.Text.{isLf, isBlank, Piece, Sizes, tokensFrom}
-use Rattle.rules.specs.Reading.{accepted, isZero, behind, judge}
-use Rattle.rules.specs.Grammar.{Before, Header, TokenEnd, at-end, at-blank, Body, blanks, token, Text}
-use Rattle.rules.specs.Grammar.{header-only, with-body, ClausesOf, no-clause, clause, Dimacs}
+use Rattle.rules.specs.Text.{isLf, isBlank, isDigit, isComment, Piece, Sizes, tokensFrom}
+use Rattle.rules.specs.Reading.{accepted, isZero, endOf, judge}
+use Rattle.rules.specs.Grammar.{IsBlank, Blanks, Before, Header, Token, plain, minus, TokenEnd, at-end, at-blank, LineEnd}
+use Rattle.rules.specs.Grammar.{Body, blanks, comment, token, percent, Text, ClausesOf, no-clause, clause, Dimacs}
 use Rattle.rules.specs.Refusals.{FirstLine, Say, nothing, one-more}
-use Rattle.rules.proofs.ListLaws.{count-append, eqz-sound, or-left, or-right}
-use Rattle.rules.proofs.ByteLaws.{blank-sound, blank-complete, blanks-sound, blanks-complete, noZero-sound, noZero-complete}
-use Rattle.rules.proofs.CutLaws.{nil-not-append, Stops, Words, words-exists, words-unique}
-use Rattle.rules.proofs.TokenLaws.{word-of-token}
+use Rattle.rules.proofs.ListLaws.{never, and-left, count-append, eqz-sound, or-left, or-right}
+use Rattle.rules.proofs.ByteLaws.{blank-sound, blank-complete, blanks-sound, blanks-complete, noLf-sound, noLf-complete, noZero-sound, noZero-complete}
+use Rattle.rules.proofs.CutLaws.{nil-not-append, Stops}
+use Rattle.rules.proofs.TokenLaws.{digit-most, numeral-digits, word-of-token}
 use Rattle.rules.proofs.HeaderLaws.{header-not-skipped, header-no-lf}
-use Rattle.rules.proofs.LineLaws.{Front, first-line-sound, first-line-complete, drop-behind}
-use Rattle.rules.proofs.JudgeLaws.{Passes, passed, pass, passes-of-fine}
+use Rattle.rules.proofs.LineLaws.{Front, first-line-sound, first-line-complete, drop-endOf}
+use Rattle.rules.proofs.BodyLaws.{tokens-nil, tokens-blank, tokens-blanks, tokens-comment, tokens-word, split}
+use Rattle.rules.proofs.JudgeLaws.{Passes, passed, pass, passes-of-fine, Closed, none-left}
 use Rattle.rules.proofs.VerdictLaws.{tokensOf, Whole, Verdict, accepts, judge-of-verdict, verdict-of-judge}
 
 -- ---- zeros
@@ -74,7 +78,7 @@ not-behind-of-clausesOf (clause {n} cl {es} h c) front l back e = inside cl (noZ
 
 -- ---- tokens
 
-stops-of-ended : {bs : List ℕ} → TokenEnd bs → Stops isBlank bs
+pub stops-of-ended : {bs : List ℕ} → TokenEnd bs → Stops isBlank bs
 stops-of-ended at-end = Stops.at-end
 stops-of-ended (at-blank e) = Stops.at-one (blank-complete e)
 
@@ -82,27 +86,152 @@ ended-of-stops : {bs : List ℕ} → Stops isBlank bs → TokenEnd bs
 ended-of-stops Stops.at-end = at-end
 ended-of-stops (Stops.at-one {b} e) = at-blank (blank-sound b e)
 
-body-of-words : {at : ℕ} {xs : List ℕ} {ts : List Piece} {es : List ℤ} → Words isBlank at xs ts → Say ts es → Body xs es
-body-of-words (Words.none {bs} h) nothing = blanks (blanks-sound bs h)
-body-of-words (Words.word bs h w i j s r) (one-more t y) = token {bs = bs} (blanks-sound bs h) t (ended-of-stops s) (body-of-words r y)
+line-end-of-stops : {bs : List ℕ} → Stops isLf bs → LineEnd bs
+line-end-of-stops Stops.at-end = LineEnd.at-end
+line-end-of-stops (Stops.at-one {b} {bs} e) = subst (λ (x : ℕ). LineEnd (x ∷ bs)) (sym (eqb-true b 10 e)) LineEnd.at-lf
 
-pub body-of-say : (at : ℕ) (xs : List ℕ) {es : List ℤ} → Say (tokensFrom at xs) es → Body xs es
-unfolding tokensFrom
-body-of-say at xs y = body-of-words (words-exists isBlank at xs) y
+pub stops-of-line-end : {bs : List ℕ} → LineEnd bs → Stops isLf bs
+stops-of-line-end LineEnd.at-end = Stops.at-end
+stops-of-line-end LineEnd.at-lf = Stops.at-one refl
 
-words-of-body : (at : ℕ) {xs : List ℕ} {es : List ℤ} → Body xs es → (ts : List Piece) × Words isBlank at xs ts × Say ts es
-words-of-body at (blanks h) = ([], Words.none (blanks-complete h), nothing)
-words-of-body at (token {bs} {w} h t e b) =
-    let later = words-of-body (at + length bs + length w) b in (
-      record { at = at + length bs; bytes = w } ∷
-          later .0,
-      Words.word bs (blanks-complete h) (word-of-token t) refl refl (stops-of-ended e) (later .1),
-      one-more t (later .2),
-    )
+-- tokens that say entries, up to a `%` or to the last one
+pub data Says : List Piece → List ℤ → Type 0 where
+  none-more : Says [] []
+  says-one : {t : Piece} {ts : List Piece} {l : ℤ} {es : List ℤ} → Token (t .bytes) l → Says ts es → Says (t ∷ ts) (l ∷ es)
+  says-end : {t : Piece} {ts : List Piece} → t .bytes ≡ 37 ∷ [] → Says (t ∷ ts) []
 
-pub say-of-body : (at : ℕ) {xs : List ℕ} {es : List ℤ} → Body xs es → Say (tokensFrom at xs) es
-unfolding tokensFrom
-say-of-body at {xs} {es} b = let w = words-of-body at b in subst (λ (ts : List Piece). Say ts es) (sym (words-unique isBlank (w .1))) (w .2)
+pub says-of-say : {s : Sizes} {k : ℕ} {before rest : List Piece} {es : List ℤ} → Say before es → Closed s k rest → Says (before ++ rest) es
+says-of-say nothing none-left = none-more
+says-of-say nothing (Closed.percent e h) = says-end e
+says-of-say (one-more w y) c = says-one w (says-of-say y c)
+
+record SaidBy (s : Sizes) (ts : List Piece) (es : List ℤ) : Type 0 where
+  before : List Piece
+  rest : List Piece
+  tokens : ts ≡ before ++ rest
+  say : Say before es
+  closed : (k : ℕ) → s .clauses ≤ k → Closed s k rest
+
+say-of-says : {s : Sizes} {ts : List Piece} {es : List ℤ} → Says ts es → SaidBy s ts es
+say-of-says none-more = record { before = []; rest = []; tokens = refl; say = nothing; closed = λ k h. none-left }
+say-of-says {s} (says-one {t} w y) =
+    let p = say-of-says {s = s} y in
+    record { before = t ∷ p .before; rest = p .rest; tokens = ap (λ (ts : List Piece). t ∷ ts) (p .tokens); say = one-more w (p .say); closed = p .closed }
+say-of-says (says-end {t} {ts} e) = record { before = []; rest = t ∷ ts; tokens = refl; say = nothing; closed = λ k h. Closed.percent e h }
+
+-- ---- from the tokens to the body
+
+pub no-blanks : Blanks []
+no-blanks = blanks-sound [] refl
+
+pub blanks-cons : {b : ℕ} {bs : List ℕ} → IsBlank b → Blanks bs → Blanks (b ∷ bs)
+blanks-cons {b} {bs} e s = blanks-sound (b ∷ bs) (rw (blank-complete e) (blanks-complete s))
+
+pub body-blank : {b : ℕ} {bs : List ℕ} {es : List ℤ} → IsBlank b → Body bs es → Body (b ∷ bs) es
+body-blank e (blanks s) = blanks (blanks-cons e s)
+body-blank e (comment s n d w) = comment (blanks-cons e s) n d w
+body-blank e (token s t d w) = token (blanks-cons e s) t d w
+body-blank e (percent s d) = percent (blanks-cons e s) d
+
+-- texts of at most n bytes
+abbrev UpTo : ℕ → Type 0
+UpTo n = (at : ℕ) (xs : List ℕ) (es : List ℤ) → length xs ≤ n → Says (tokensFrom at xs) es → Body xs es
+
+body-nil : (at : ℕ) (es : List ℤ) → Says (tokensFrom at []) es → Body [] es
+body-nil at es y = go (subst (λ (ts : List Piece). Says ts es) (tokens-nil at) y)
+  where
+    go : {fs : List ℤ} → Says [] fs → Body [] fs
+    go none-more = blanks no-blanks
+
+-- one byte more
+body-cons : (n at x : ℕ) (xs : List ℕ) (es : List ℤ) → UpTo n → length xs ≤ n → Says (tokensFrom at (x ∷ xs)) es → Body (x ∷ xs) es
+body-cons n at x xs es ih h y = go (isBlank x) refl
+  where
+    passes : isBlank x ≡ true → (isLf x ≡ true → isComment xs ≡ false) → Body (x ∷ xs) es
+    passes e k =
+        body-blank (blank-sound x e)
+        (ih (at + 1) xs es (omega arith) (subst (λ (ts : List Piece). Says ts es) (tokens-blank at x xs e k) y))
+
+    comments : (ys : List ℕ) → length ys ≤ n → Says (tokensFrom at (10 ∷ ys)) es → isComment ys ≡ true → Body (10 ∷ ys) es
+    comments [] k z q = absurd (never q refl)
+    comments (c ∷ cs) k z q =
+        let s = split isLf cs in
+        let is-text : 10 ∷ c ∷ cs ≡ 10 ∷ 99 ∷ s .front ++ s .rest =
+        ap₂ (λ (b : ℕ) (bs : List ℕ). 10 ∷ b ∷ bs) (eqb-true c 99 q) (s .is-text) in
+        let later : Says (tokensFrom (at + 2 + length (s .front)) (s .rest)) es =
+        subst (λ (ts : List Piece). Says ts es) (ap (tokensFrom at) is-text ∙ tokens-comment at (s .front) (s .none) (s .stops)) z in
+        subst (λ (t : List ℕ). Body t es) (sym is-text)
+        (comment {bs = []} no-blanks (noLf-sound (s .front) (s .none)) (line-end-of-stops (s .stops))
+        (ih (at + 2 + length (s .front)) (s .rest) es (omega (arith, ap length (s .is-text), length-append (s .front) (s .rest))) later))
+
+    lines : isBlank x ≡ true → (t : Bool) → isLf x ≡ t → (c : Bool) → isComment xs ≡ c → Body (x ∷ xs) es
+    lines e false q c r = passes e (λ p. absurd (never p q))
+    lines e true q false r = passes e (λ p. r)
+    lines e true q true r =
+        let lf : x ≡ 10 = eqb-true x 10 q in
+        subst (λ (b : ℕ). Body (b ∷ xs) es) (sym lf)
+        (comments xs (omega arith) (subst (λ (b : ℕ). Says (tokensFrom at (b ∷ xs)) es) lf y) r)
+
+    word : (w rest : List ℕ) (us : List Piece) (fs : List ℤ) → Stops isBlank rest → ((gs : List ℤ) → Says us gs → Body rest gs)
+        → Says (record { at = at; bytes = w } ∷ us) fs → Body (w ++ rest) fs
+    word w rest us fs s later (says-one {es = gs} t z) = token {bs = []} no-blanks t (ended-of-stops s) (later gs z)
+    word w rest us fs s later (says-end e) = subst (λ (v : List ℕ). Body (v ++ rest) []) (sym e) (percent {bs = []} no-blanks (ended-of-stops s))
+
+    go : (t : Bool) → isBlank x ≡ t → Body (x ∷ xs) es
+    go true e = lines e (isLf x) refl (isComment xs) refl
+    go false e =
+        let s = split isBlank xs in
+        let w = x ∷ s .front in
+        let is-text : x ∷ xs ≡ w ++ s .rest = ap (λ (ys : List ℕ). x ∷ ys) (s .is-text) in
+        let found : Says (record { at = at; bytes = w } ∷ tokensFrom (at + length w) (s .rest)) es =
+        subst (λ (ts : List Piece). Says ts es)
+        (ap (tokensFrom at) is-text ∙ tokens-word at w (record { some = omega arith; none = rw e (s .none) }) (s .stops)) y in
+        subst (λ (t : List ℕ). Body t es) (sym is-text)
+        (word w (s .rest) (tokensFrom (at + length w) (s .rest)) es (s .stops)
+        (λ gs z. ih (at + length w) (s .rest) gs (omega (arith, ap length (s .is-text), length-append (s .front) (s .rest))) z) found)
+
+upTo-zero : UpTo 0
+upTo-zero at [] es h y = body-nil at es y
+upTo-zero at (x ∷ xs) es h y = absurd (omega arith)
+
+upTo-suc : (n : ℕ) → UpTo n → UpTo (suc n)
+upTo-suc n ih at [] es h y = body-nil at es y
+upTo-suc n ih at (x ∷ xs) es h y = body-cons n at x xs es ih (omega arith) y
+
+up-to : (n : ℕ) → UpTo n
+up-to zero = upTo-zero
+up-to (suc n) = upTo-suc n (up-to n)
+
+pub body-of-says : (at : ℕ) (xs : List ℕ) {es : List ℤ} → Says (tokensFrom at xs) es → Body xs es
+body-of-says at xs {es} y = up-to (length xs) at xs es (omega arith) y
+
+-- ---- and back
+
+token-no-comment : {w : List ℕ} {l : ℤ} (rest : List ℕ) → Token w l → isComment (w ++ rest) ≡ false
+token-no-comment rest (plain {ds = []} m) = absurd (omega (arith, m .some))
+token-no-comment rest (plain {ds = d ∷ ds} m) =
+    ne-eqb d 99 (omega (arith, digit-most d (and-left (isDigit d) (all isDigit ds) (numeral-digits m))))
+token-no-comment rest (minus m) = refl
+
+pub says-of-body : (at : ℕ) {xs : List ℕ} {es : List ℤ} → Body xs es → Says (tokensFrom at xs) es
+says-of-body at (blanks {bs} h) =
+    subst (λ (ts : List Piece). Says ts [])
+    (sym (ap (tokensFrom at) (sym (append-nil bs)) ∙ tokens-blanks at bs [] (blanks-complete h) refl ∙ tokens-nil (at + length bs))) none-more
+says-of-body at {es} (comment {bs} {cs} {rest} h n e b) =
+    subst (λ (ts : List Piece). Says ts es)
+    (sym (ap (tokensFrom at) (append-assoc bs (10 ∷ 99 ∷ cs) rest) ∙ tokens-blanks at bs (10 ∷ 99 ∷ cs ++ rest) (blanks-complete h) refl ∙
+    tokens-comment (at + length bs) cs (noLf-complete n) (stops-of-line-end e)))
+    (says-of-body (at + length bs + 2 + length cs) b)
+says-of-body at {es} (token {bs} {w} {rest} h t e b) =
+    subst (λ (ts : List Piece). Says ts es)
+    (sym (ap (tokensFrom at) (append-assoc bs w rest) ∙ tokens-blanks at bs (w ++ rest) (blanks-complete h) (token-no-comment rest t) ∙
+    tokens-word (at + length bs) w (word-of-token t) (stops-of-ended e)))
+    (says-one t (says-of-body (at + length bs + length w) b))
+says-of-body at (percent {bs} {rest} h e) =
+    subst (λ (ts : List Piece). Says ts [])
+    (sym (tokens-blanks at bs (37 ∷ rest) (blanks-complete h) refl ∙
+    tokens-word (at + length bs) (37 ∷ []) (record { some = omega arith; none = refl }) (stops-of-ended e)))
+    (says-end refl)
 
 -- ---- the text
 
@@ -112,42 +241,22 @@ pub record Parts (text : List ℕ) (vars clauses : ℕ) (es : List ℤ) : Type 0
   pub rest : List ℕ
   pub before : Before front
   pub is-header : Header line vars clauses
-  pub stops : Stops isLf rest
+  pub ends : LineEnd rest
   pub is-text : text ≡ front ++ line ++ rest
-  pub body : Body (drop 1 rest) es
+  pub body : Body rest es
 
-pub parts-of-text : {text : List ℕ} {vars clauses : ℕ} {es : List ℤ} → Text text vars clauses es → Parts text vars clauses es
-parts-of-text (header-only {a} {h} b k) =
-    record {
-      front = a;
-      line = h;
-      rest = [];
-      before = b;
-      is-header = k;
-      stops = Stops.at-end;
-      is-text = sym (append-nil (a ++ h));
-      body = blanks (blanks-sound [] refl);
-    }
-parts-of-text (with-body {a} {h} {rest} b k y) =
-    record { front = a; line = h; rest = 10 ∷ rest; before = b; is-header = k; stops = Stops.at-one refl; is-text = refl; body = y }
+pub parts-of-text : {t : List ℕ} {vars clauses : ℕ} {es : List ℤ} → Text t vars clauses es → Parts t vars clauses es
+parts-of-text (Text.text {a} {h} {rest} b k e y) =
+    record { front = a; line = h; rest = rest; before = b; is-header = k; ends = e; is-text = refl; body = y }
 
-no-entries : {bs : List ℕ} {es : List ℤ} → Body bs es → bs ≡ [] → [] ≡ es
-no-entries (blanks h) e = refl
-no-entries (token {bs} {w} {rest} h t s b) e =
-    absurd (omega (arith, word-of-token t .some, length-append (bs ++ w) rest, length-append bs w, ap length e))
-
-pub text-of-parts : {text : List ℕ} {vars clauses : ℕ} {es : List ℤ} → Parts text vars clauses es → Text text vars clauses es
-text-of-parts {text} {vars} {clauses} {es} p = go (p .rest) (p .stops) (p .is-text) (p .body)
-  where
-    go : (rest : List ℕ) → Stops isLf rest → text ≡ p .front ++ p .line ++ rest → Body (drop 1 rest) es → Text text vars clauses es
-    go [] Stops.at-end e y =
-        subst₂ (λ (t : List ℕ) (xs : List ℤ). Text t vars clauses xs) (sym (e ∙ append-nil (p .front ++ p .line))) (no-entries y refl)
-        (header-only (p .before) (p .is-header))
-    go (b ∷ bs) (Stops.at-one h) e y =
-        subst (λ (t : List ℕ). Text t vars clauses es) (sym (e ∙ ap (λ (z : ℕ). p .front ++ p .line ++ z ∷ bs) (eqb-true b 10 h)))
-        (with-body (p .before) (p .is-header) y)
+pub text-of-parts : {t : List ℕ} {vars clauses : ℕ} {es : List ℤ} → Parts t vars clauses es → Text t vars clauses es
+text-of-parts {vars} {clauses} {es} p =
+    subst (λ (t : List ℕ). Text t vars clauses es) (sym (p .is-text)) (Text.text (p .before) (p .is-header) (p .ends) (p .body))
 
 -- ---- the theorem
+
+pub says-of-whole : {room : ℕ} {text : List ℕ} {s : Sizes} {es : List ℤ} (w : Whole room text s es) → Says (tokensOf text (w .line)) es
+says-of-whole {es} w = subst (λ (ts : List Piece). Says ts es) (sym (w .tokens)) (says-of-say (w .fine .say) (w .closed))
 
 pub dimacs-of-whole : {room : ℕ} {text : List ℕ} {s : Sizes} {es : List ℤ} → Whole room text s es → Dimacs text (s .vars) (s .clauses) es
 dimacs-of-whole {text} {s} {es} w =
@@ -172,11 +281,11 @@ dimacs-of-whole {text} {s} {es} w =
           rest = found .rest;
           before = found .before;
           is-header = w .headed .is-header;
-          stops = found .stops;
+          ends = line-end-of-stops (found .stops);
           is-text = found .is-text;
           body =
-              body-of-say (behind (w .line)) (drop 1 (found .rest))
-              (subst (λ (xs : List ℕ). Say (tokensFrom (behind (w .line)) xs) es) (drop-behind found) (w .fine .say));
+              body-of-says (endOf (w .line)) (found .rest)
+              (subst (λ (xs : List ℕ). Says (tokensFrom (endOf (w .line)) xs) es) (drop-endOf found) (says-of-whole w));
         }
 
 pub whole-of-dimacs : {room : ℕ} {text : List ℕ} {vars clauses : ℕ} {es : List ℤ} → maxEntries ≤ room → Dimacs text vars clauses es
@@ -186,7 +295,11 @@ whole-of-dimacs {text} {vars} {clauses} {es} h d =
       begun = record { room-fits = h; text-fits = d .text-fits };
       line = line;
       headed = record { first-line = first-line; is-header = p .is-header; vars-fit = d .vars-fit; clauses-fit = d .clauses-fit };
-      fine = record { say = say; not-behind = not-behind-of-clausesOf (d .exactly); up-to = d .up-to; most = d .entries-fit };
+      before = said .before;
+      rest = said .rest;
+      tokens = said .tokens;
+      fine = record { say = said .say; not-behind = not-behind-of-clausesOf (d .exactly); up-to = d .up-to; most = d .entries-fit };
+      closed = said .closed (count isZero es) (omega (arith, count-clausesOf (d .exactly)));
       exactly = count-clausesOf (d .exactly);
     }
   where
@@ -199,7 +312,7 @@ whole-of-dimacs {text} {vars} {clauses} {es} h d =
     first-line : FirstLine text line
     first-line =
         subst (λ (t : List ℕ). FirstLine t line) (sym (p .is-text))
-        (first-line-complete (p .before) (header-no-lf (p .is-header)) (p .stops) (header-not-skipped (length (p .front)) (p .is-header)))
+        (first-line-complete (p .before) (header-no-lf (p .is-header)) (stops-of-line-end (p .ends)) (header-not-skipped (length (p .front)) (p .is-header)))
 
     found : Front 0 text line
     found =
@@ -210,11 +323,11 @@ whole-of-dimacs {text} {vars} {clauses} {es} h d =
           is-text = p .is-text;
           place = omega arith;
           one-line = header-no-lf (p .is-header);
-          stops = p .stops;
+          stops = stops-of-line-end (p .ends);
         }
 
-    say : Say (tokensOf text line) es
-    say = subst (λ (xs : List ℕ). Say (tokensFrom (behind line) xs) es) (sym (drop-behind found)) (say-of-body (behind line) (p .body))
+    said : SaidBy (record { vars = vars; clauses = clauses }) (tokensOf text line) es
+    said = say-of-says (subst (λ (xs : List ℕ). Says (tokensFrom (endOf line) xs) es) (sym (drop-endOf found)) (says-of-body (endOf line) (p .body)))
 
 pub accepted-sound : (room : ℕ) (text : List ℕ) {s : Sizes} {es : List ℤ} → judge room text ≡ accepted s es
     → Dimacs text (s .vars) (s .clauses) es

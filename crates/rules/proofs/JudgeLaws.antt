@@ -4,19 +4,20 @@
 --   Fits, Passes                  tokens with nothing to refuse, one after the other
 --   fine-of-passes, passes-of-fine, count-of-passes     they are those of specs/Refusals, and complete C clauses at most
 --   Stop                          why a token is refused: 5, 6, 7, 8
---   Stopped, tokens-cases         all tokens pass, or one is the first to be refused
+--   Closed                        where no more is read: no token is left, or `%` stands behind the last clause
+--   Finished, Stopped, tokens-cases     all tokens pass up to there, or one is the first to be refused
 --   withEntries, withEntries-refused, withEntries-accepted     entries in front of what is judged
---   judgeTokens-passes, judgeTokens-end, judgeTokens-stopped     what the judgement is in each case
+--   judgeTokens-finished, judgeTokens-end, judgeTokens-stopped     what the judgement is in each case
 --
 -- Assumes nothing.
-use mathlib.Core.Path.{_≡_, refl, sym, _∙_, ap, ap₂, subst₂}
+use mathlib.Core.Path.{_≡_, refl, sym, _∙_, ap, ap₂, subst, subst₂}
 use mathlib.Core.Logic.{_⊎_, inl, inr}
 use mathlib.Core.Bool.{Bool, true, false}
 use mathlib.Core.List.{List, [], _∷_, _++_, append-nil, List·Memᴰ·head, List·Memᴰ·tail, List·Memᴰ·not-nil}
 use mathlib.Core.Option.{Option, none, some}
 use Prim.Native.Nat.{ℕ, suc, _+_, _≤_, _<_}
 use native.Mathlib.Omega.{arith}
-use lib.Dec.{ltb}
+use lib.Dec.{leb, ltb}
 use lib.IntN.{ℤ}
 use lib.ListN.{length}
 use borrow.Author.Tests.{le-leb, lt-leb, lt-ltb, le-ltb}
@@ -24,13 +25,13 @@ use Rattle.rules.specs.declared.ReadAnswer.{ReadAnswer}
 use Rattle.rules.specs.Lists.{In, count, countIf}
 use Rattle.rules.specs.Numbers.{maxEntries}
 use Rattle.rules.specs.Meaning.{varOf}
-use Rattle.rules.specs.Text.{Piece, Sizes, entryOf}
-use Rattle.rules.specs.Reading.{Judged, accepted, refused, isZero, withEntry, judgeEnd, judgeTokens}
+use Rattle.rules.specs.Text.{Piece, Sizes, isPercent, entryOf}
+use Rattle.rules.specs.Reading.{Judged, accepted, refused, isZero, withEntry, judgeEnd, endsText, judgeTokens}
 use Rattle.rules.specs.Grammar.{Token}
 use Rattle.rules.specs.Refusals.{Say, nothing, one-more, Fine}
-use Rattle.rules.proofs.ListLaws.{le-or-lt}
+use Rattle.rules.proofs.ListLaws.{le-or-lt, never, not-true, and-left, and-right}
 use Rattle.rules.proofs.CutLaws.{nil-not-append}
-use Rattle.rules.proofs.TokenLaws.{not-none, entry-sound, entry-complete, entry-none}
+use Rattle.rules.proofs.TokenLaws.{not-none, entry-sound, entry-complete, entry-none, percent-sound, token-not-percent}
 
 countIf-add : (b : Bool) (k n : ℕ) → countIf b k + n ≡ k + countIf b n
 countIf-add true k n = omega arith
@@ -112,7 +113,7 @@ module _ {s : Sizes} where
 -- ---- a token that is refused, in the order 5, 6, 7, 8
 
 pub data Stop (s : Sizes) (k n : ℕ) (t : Piece) : ReadAnswer → Type 0 where
-  bad : ((l : ℤ) → Token (t .bytes) l → ⊥) → Stop s k n t (ReadAnswer.BadToken (t .at))
+  bad : ((l : ℤ) → Token (t .bytes) l → ⊥) → (t .bytes ≡ 37 ∷ [] → k < s .clauses) → Stop s k n t (ReadAnswer.BadToken (t .at))
   after-last : (l : ℤ) → Token (t .bytes) l → s .clauses ≤ k → Stop s k n t (ReadAnswer.TokenBehind (t .at))
   above : (l : ℤ) → Token (t .bytes) l → k < s .clauses → s .vars < varOf l → Stop s k n t (ReadAnswer.TokenOverVars (t .at))
   over : (l : ℤ) → Token (t .bytes) l → k < s .clauses → varOf l ≤ s .vars → maxEntries ≤ n → Stop s k n t (ReadAnswer.ManyTokens (t .at))
@@ -128,38 +129,65 @@ pub record Stopped (s : Sizes) (k n : ℕ) (ts : List Piece) : Type 0 where
   pub passes : Passes s k n before es
   pub stop : Stop s (k + count isZero es) (n + length es) token answer
 
+-- with k clauses complete: no token is left, or `%` stands here and nothing behind it is read
+pub data Closed (s : Sizes) (k : ℕ) : List Piece → Type 0 where
+  none-left : Closed s k []
+  percent : {t : Piece} {ts : List Piece} → t .bytes ≡ 37 ∷ [] → s .clauses ≤ k → Closed s k (t ∷ ts)
+
+-- tokens that say es, up to where no more is read
+pub record Finished (s : Sizes) (k n : ℕ) (ts : List Piece) : Type 0 where
+  pub before : List Piece
+  pub rest : List Piece
+  pub es : List ℤ
+  pub tokens : ts ≡ before ++ rest
+  pub passes : Passes s k n before es
+  pub closed : Closed s (k + count isZero es) rest
+
+-- one token: it passes, closes the text, or is refused
+data TokenCases (s : Sizes) (k n : ℕ) (t : Piece) : Type 0 where
+  passes : (l : ℤ) → Token (t .bytes) l → Fits s k n l → TokenCases s k n t
+  closes : t .bytes ≡ 37 ∷ [] → s .clauses ≤ k → TokenCases s k n t
+  stops : (a : ReadAnswer) → Stop s k n t a → TokenCases s k n t
+
 module _ (s : Sizes) where
-  token-cases : (k n : ℕ) (t : Piece) → ((l : ℤ) × Token (t .bytes) l × Fits s k n l) ⊎ ((a : ReadAnswer) × Stop s k n t a)
-  token-cases k n t = go (entryOf (t .bytes)) refl
+  token-cases : (k n : ℕ) (t : Piece) → TokenCases s k n t
+  token-cases k n t = go (entryOf (t .bytes)) refl (le-or-lt (s .clauses) k)
     where
-      Cases : Type 0
-      Cases = ((l : ℤ) × Token (t .bytes) l × Fits s k n l) ⊎ ((a : ReadAnswer) × Stop s k n t a)
+      entries : (l : ℤ) → Token (t .bytes) l → k < s .clauses → varOf l ≤ s .vars → (maxEntries ≤ n) ⊎ (n < maxEntries) → TokenCases s k n t
+      entries l w h u (inl o) = stops (ReadAnswer.ManyTokens (t .at)) (over l w h u o)
+      entries l w h u (inr m) = passes l w (record { not-behind = h; up-to = u; most = m })
 
-      entries : (l : ℤ) → Token (t .bytes) l → k < s .clauses → varOf l ≤ s .vars → (maxEntries ≤ n) ⊎ (n < maxEntries) → Cases
-      entries l w h u (inl o) = inr (ReadAnswer.ManyTokens (t .at), over l w h u o)
-      entries l w h u (inr m) = inl (l, w, record { not-behind = h; up-to = u; most = m })
-
-      vars : (l : ℤ) → Token (t .bytes) l → k < s .clauses → (varOf l ≤ s .vars) ⊎ (s .vars < varOf l) → Cases
+      vars : (l : ℤ) → Token (t .bytes) l → k < s .clauses → (varOf l ≤ s .vars) ⊎ (s .vars < varOf l) → TokenCases s k n t
       vars l w h (inl u) = entries l w h u (le-or-lt maxEntries n)
-      vars l w h (inr u) = inr (ReadAnswer.TokenOverVars (t .at), above l w h u)
+      vars l w h (inr u) = stops (ReadAnswer.TokenOverVars (t .at)) (above l w h u)
 
-      clauses : (l : ℤ) → Token (t .bytes) l → (s .clauses ≤ k) ⊎ (k < s .clauses) → Cases
-      clauses l w (inl h) = inr (ReadAnswer.TokenBehind (t .at), after-last l w h)
-      clauses l w (inr h) = vars l w h (le-or-lt (varOf l) (s .vars))
+      malformed : ((l : ℤ) → Token (t .bytes) l → ⊥) → (b : Bool) → isPercent (t .bytes) ≡ b → s .clauses ≤ k → TokenCases s k n t
+      malformed f true e h = closes (percent-sound e) h
+      malformed f false e h = stops (ReadAnswer.BadToken (t .at)) (bad f (λ q. absurd (never (ap isPercent q) e)))
 
-      go : (o : Option ℤ) → entryOf (t .bytes) ≡ o → Cases
-      go none e = inr (ReadAnswer.BadToken (t .at), bad (λ l w. not-none (entry-complete w) e))
-      go (some l) e = clauses l (entry-sound (t .bytes) e) (le-or-lt (s .clauses) k)
+      go : (o : Option ℤ) → entryOf (t .bytes) ≡ o → (s .clauses ≤ k) ⊎ (k < s .clauses) → TokenCases s k n t
+      go none e (inl h) = malformed (λ l w. not-none (entry-complete w) e) (isPercent (t .bytes)) refl h
+      go none e (inr h) = stops (ReadAnswer.BadToken (t .at)) (bad (λ l w. not-none (entry-complete w) e) (λ q. h))
+      go (some l) e (inl h) = stops (ReadAnswer.TokenBehind (t .at)) (after-last l (entry-sound (t .bytes) e) h)
+      go (some l) e (inr h) = vars l (entry-sound (t .bytes) e) h (le-or-lt (varOf l) (s .vars))
 
-  pub tokens-cases : (k n : ℕ) (ts : List Piece) → ((es : List ℤ) × Passes s k n ts es) ⊎ Stopped s k n ts
-  tokens-cases k n [] = inl ([], passed)
+  pub tokens-cases : (k n : ℕ) (ts : List Piece) → Finished s k n ts ⊎ Stopped s k n ts
+  tokens-cases k n [] = inl (record { before = []; rest = []; es = []; tokens = refl; passes = passed; closed = none-left })
   tokens-cases k n (t ∷ ts) = go (token-cases k n t) (λ j. tokens-cases j (suc n) ts)
     where
       Cases : ℕ → ℕ → List Piece → Type 0
-      Cases k n ts = ((es : List ℤ) × Passes s k n ts es) ⊎ Stopped s k n ts
+      Cases k n ts = Finished s k n ts ⊎ Stopped s k n ts
 
       later : (l : ℤ) → Token (t .bytes) l → Fits s k n l → Cases (countIf (isZero l) k) (suc n) ts → Cases k n (t ∷ ts)
-      later l w f (inl p) = inl (l ∷ p .0, pass w f (p .1))
+      later l w f (inl p) =
+          inl (record {
+            before = t ∷ p .before;
+            rest = p .rest;
+            es = l ∷ p .es;
+            tokens = ap (λ (xs : List Piece). t ∷ xs) (p .tokens);
+            passes = pass w f (p .passes);
+            closed = subst (λ (i : ℕ). Closed s i (p .rest)) (countIf-add (isZero l) k (count isZero (p .es))) (p .closed);
+          })
       later l w f (inr d) =
           inr (record {
             before = t ∷ d .before;
@@ -172,19 +200,20 @@ module _ (s : Sizes) where
             stop = subst₂ (λ (i j : ℕ). Stop s i j (d .token) (d .answer)) (countIf-add (isZero l) k (count isZero (d .es))) (omega arith) (d .stop);
           })
 
-      go : ((l : ℤ) × Token (t .bytes) l × Fits s k n l) ⊎ ((a : ReadAnswer) × Stop s k n t a) → ((j : ℕ) → Cases j (suc n) ts)
-          → Cases k n (t ∷ ts)
-      go (inl p) ih = later (p .0) (p .1) (p .2) (ih (countIf (isZero (p .0)) k))
-      go (inr q) ih =
+      go : TokenCases s k n t → ((j : ℕ) → Cases j (suc n) ts) → Cases k n (t ∷ ts)
+      go (passes l w f) ih = later l w f (ih (countIf (isZero l) k))
+      go (closes e h) ih =
+          inl (record { before = []; rest = t ∷ ts; es = []; tokens = refl; passes = passed; closed = percent e (omega arith) })
+      go (stops a q) ih =
           inr (record {
             before = [];
             token = t;
             after = ts;
             es = [];
-            answer = q .0;
+            answer = a;
             tokens = refl;
             passes = passed;
-            stop = subst₂ (λ (i j : ℕ). Stop s i j t (q .0)) (omega arith) (omega arith) (q .1);
+            stop = subst₂ (λ (i j : ℕ). Stop s i j t a) (omega arith) (omega arith) q;
           })
 
 -- ---- what the judgement is
@@ -201,23 +230,44 @@ pub withEntries-accepted : (es : List ℤ) (s : Sizes) → withEntries es (accep
 withEntries-accepted [] s = refl
 withEntries-accepted (l ∷ es) s = ap (withEntry l) (withEntries-accepted es s)
 
+-- `%` ends the text behind the last clause alone
+not-ended : (s : Sizes) (k : ℕ) (w : List ℕ) → (w ≡ 37 ∷ [] → k < s .clauses) → endsText s k w ≡ false
+not-ended s k w f =
+    not-true (endsText s k w)
+    (λ e. never (and-right (isPercent w) (leb (s .clauses) k) e)
+    (lt-leb (s .clauses) k (f (percent-sound (and-left (isPercent w) (leb (s .clauses) k) e)))))
+
 module _ (s : Sizes) (end : ℕ) where
-  pub judgeTokens-passes : {k n : ℕ} {ts : List Piece} {es : List ℤ} (rest : List Piece) → Passes s k n ts es
+  judgeTokens-passes : {k n : ℕ} {ts : List Piece} {es : List ℤ} (rest : List Piece) → Passes s k n ts es
       → judgeTokens s end k n (ts ++ rest) ≡ withEntries es (judgeTokens s end (k + count isZero es) (n + length es) rest)
   unfolding judgeTokens
   judgeTokens-passes {k} {n} rest passed = ap₂ (λ (i j : ℕ). judgeTokens s end i j rest) (omega arith) (omega arith)
   judgeTokens-passes {k} {n} rest (pass {t} {ts} {l} {es} w f p) =
-      rw (entry-complete w, lt-leb (s .clauses) k (f .not-behind), le-ltb (s .vars) (varOf l) (f .up-to), lt-leb maxEntries n (f .most))
+      rw (token-not-percent w, entry-complete w, lt-leb (s .clauses) k (f .not-behind), le-ltb (s .vars) (varOf l) (f .up-to), lt-leb maxEntries n (f .most))
       (ap (withEntry l) (judgeTokens-passes rest p ∙
       ap₂ (λ (i j : ℕ). withEntries es (judgeTokens s end i j rest)) (countIf-add (isZero l) k (count isZero es)) (omega arith)))
 
   judgeTokens-stop : {k n : ℕ} {t : Piece} {a : ReadAnswer} (ts : List Piece) → Stop s k n t a → judgeTokens s end k n (t ∷ ts) ≡ refused a
   unfolding judgeTokens
-  judgeTokens-stop {k} {n} {t} ts (bad h) = rw (entry-none (t .bytes) h)
-  judgeTokens-stop {k} {n} {t} ts (after-last l w h) = rw (entry-complete w, le-leb (s .clauses) k h)
-  judgeTokens-stop {k} {n} {t} ts (above l w h u) = rw (entry-complete w, lt-leb (s .clauses) k h, lt-ltb (s .vars) (varOf l) u)
+  judgeTokens-stop {k} {n} {t} ts (bad h f) = rw (not-ended s k (t .bytes) f, entry-none (t .bytes) h)
+  judgeTokens-stop {k} {n} {t} ts (after-last l w h) = rw (token-not-percent w, entry-complete w, le-leb (s .clauses) k h)
+  judgeTokens-stop {k} {n} {t} ts (above l w h u) =
+      rw (token-not-percent w, entry-complete w, lt-leb (s .clauses) k h, lt-ltb (s .vars) (varOf l) u)
   judgeTokens-stop {k} {n} {t} ts (over l w h u o) =
-      rw (entry-complete w, lt-leb (s .clauses) k h, le-ltb (s .vars) (varOf l) u, le-leb maxEntries n o)
+      rw (token-not-percent w, entry-complete w, lt-leb (s .clauses) k h, le-ltb (s .vars) (varOf l) u, le-leb maxEntries n o)
+
+  judgeTokens-closed : {k : ℕ} (n : ℕ) {ts : List Piece} → Closed s k ts → s .clauses ≤ k → judgeTokens s end k n ts ≡ accepted s []
+  unfolding judgeTokens
+  judgeTokens-closed {k} n none-left h = rw (le-ltb k (s .clauses) h)
+  judgeTokens-closed {k} n (percent {t} e c) h = rw (e, le-leb (s .clauses) k c)
+
+  -- C clauses are complete where no more is read
+  pub judgeTokens-finished : {ts before rest : List Piece} {es : List ℤ} → ts ≡ before ++ rest → Passes s 0 0 before es
+      → Closed s (count isZero es) rest → s .clauses ≤ count isZero es → judgeTokens s end 0 0 ts ≡ accepted s es
+  judgeTokens-finished {rest} {es} e p c h =
+      ap (judgeTokens s end 0 0) e ∙ judgeTokens-passes rest p ∙
+      ap (λ (i : ℕ). withEntries es (judgeTokens s end i (0 + length es) rest)) (omega arith) ∙
+      ap (withEntries es) (judgeTokens-closed (0 + length es) c h) ∙ withEntries-accepted es s
 
   pub judgeTokens-end : {ts : List Piece} {es : List ℤ} → Passes s 0 0 ts es
       → judgeTokens s end 0 0 ts ≡ withEntries es (judgeEnd (ltb (count isZero es) (s .clauses)) s end)

@@ -6,13 +6,15 @@ pub mod ByteLaws
 pub mod CutLaws
 pub mod TokenLaws
 pub mod LineLaws
+pub mod BodyLaws
 pub mod HeaderLaws
 pub mod JudgeLaws
 pub mod VerdictLaws
 pub mod GrammarLaws
+pub mod CommentTheorems
+pub mod PlainLaws
 pub mod RefusalLaws
 pub mod ReadingTheorems
-pub mod PlainLaws
 pub mod MeaningLaws
 pub mod StateLaws
 pub mod ClosingLaws

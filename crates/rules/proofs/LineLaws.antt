@@ -4,7 +4,8 @@
 --   Front                         a text as skipped lines, a line, and a rest that is empty or starts with LF
 --   first-line-sound, first-line-complete     the first line that is not skipped, as such a text and back
 --   first-line-exists             all lines are skipped, or there is a first line that is not
---   drop-behind                   what stands behind a line
+--   first-line-unique             it is one line
+--   drop-endOf                    what stands behind a line, from its LF on
 --
 -- Assumes nothing.
 use mathlib.Core.Path.{_≡_, refl, sym, _∙_, ap, ap₂, subst}
@@ -14,14 +15,14 @@ use mathlib.Core.List.{List, [], _∷_, _++_, append-nil, append-assoc}
 use Prim.Native.Nat.{ℕ, _+_}
 use native.Mathlib.Omega.{arith}
 use lib.ListN.{length, length-append, drop}
-use lib.Seq.{drop-append-add}
+use lib.Seq.{drop-append-seam}
 use borrow.Author.Tests.{eqb-true}
 use Rattle.rules.specs.Lists.{any, all, cut}
 use Rattle.rules.specs.Text.{isLf, Piece, placedFrom, linesOf, isSkipped}
-use Rattle.rules.specs.Reading.{behind}
+use Rattle.rules.specs.Reading.{endOf}
 use Rattle.rules.specs.Grammar.{NoLf, Skipped, blanks, comment, Before, nothing, line}
 use Rattle.rules.specs.Refusals.{FirstLine}
-use Rattle.rules.proofs.ListLaws.{and-left, and-right}
+use Rattle.rules.proofs.ListLaws.{never, and-left, and-right}
 use Rattle.rules.proofs.ByteLaws.{noLf-sound, noLf-complete}
 use Rattle.rules.proofs.CutLaws.{nil-not-append, Cut, last, piece, cut-exists, cut-none, cut-piece, Stops, at-end, at-one}
 use Rattle.rules.proofs.TokenLaws.{skipped-sound, skipped-complete}
@@ -76,11 +77,11 @@ pub first-line-sound : {text : List ℕ} {found : Piece} → FirstLine text foun
 unfolding linesOf
 first-line-sound {text} {found} f = front-of-lines 0 (f .before) found (f .after) (cut-exists isLf text) (f .lines) (f .skipped)
 
-pub drop-behind : {text : List ℕ} {found : Piece} (f : Front 0 text found) → drop (behind found) text ≡ drop 1 (f .rest)
-drop-behind {text} {found} f =
-    let place : behind found ≡ length (f .front ++ found .bytes) + 1 = omega (arith, f .place, length-append (f .front) (found .bytes)) in
+pub drop-endOf : {text : List ℕ} {found : Piece} (f : Front 0 text found) → drop (endOf found) text ≡ f .rest
+drop-endOf {text} {found} f =
+    let place : endOf found ≡ length (f .front ++ found .bytes) = omega (arith, f .place, length-append (f .front) (found .bytes)) in
     ap₂ (λ (i : ℕ) (t : List ℕ). drop i t) place (f .is-text) ∙
-    drop-append-add (f .front ++ found .bytes) (f .rest) 1
+    drop-append-seam (f .front ++ found .bytes) (f .rest)
 
 -- ---- from the text to the lines
 
@@ -140,7 +141,21 @@ first-line-complete {front} {bs} {rest} b n s k =
       not-skipped = k;
     }
 
--- ---- there is such a line, or none
+-- ---- there is one such line, or none
+
+first-unique : {A : Type 0} (p : A → Bool) (xs : List A) {x : A} (ys us : List A) {u : A} (vs : List A)
+    → all p xs ≡ true → p x ≡ false → all p us ≡ true → p u ≡ false → xs ++ x ∷ ys ≡ us ++ u ∷ vs → x ≡ u
+first-unique p [] ys [] vs h k i j e = cc
+first-unique p [] {x} ys (z ∷ us) vs h k i j e =
+    let q : x ≡ z = cc in absurd (never (ap p q ∙ and-left (p z) (all p us) i) k)
+first-unique p (z ∷ xs) ys [] {u} vs h k i j e =
+    let q : u ≡ z = cc in absurd (never (ap p q ∙ and-left (p z) (all p xs) h) j)
+first-unique p (z ∷ xs) ys (w ∷ us) vs h k i j e =
+    first-unique p xs ys us vs (and-right (p z) (all p xs) h) k (and-right (p w) (all p us) i) j (cc)
+
+pub first-line-unique : {text : List ℕ} {one two : Piece} → FirstLine text one → FirstLine text two → one ≡ two
+first-line-unique f g =
+    first-unique isSkipped (f .before) (f .after) (g .before) (g .after) (f .skipped) (f .not-skipped) (g .skipped) (g .not-skipped) (sym (f .lines) ∙ g .lines)
 
 record Failing {A : Type 0} (p : A → Bool) (xs : List A) : Type 0 where
   before : List A

@@ -5,22 +5,22 @@
 --   refuses-place     the place of every refusal is at most the size of a text
 --
 -- Assumes nothing.
-use mathlib.Core.Path.{_≡_, refl, ap}
+use mathlib.Core.Path.{_≡_, refl, ap, subst}
+use mathlib.Core.Logic.{_⊎_, inl, inr}
 use mathlib.Core.Bool.{Bool, not}
-use mathlib.Core.List.{List, [], _∷_, _++_, List·Memᴰ·head, List·Memᴰ·tail, List·Memᴰ·not-nil, Memᴰ·append-right}
+use mathlib.Core.List.{List, [], _∷_, _++_, map, List·Memᴰ·head, List·Memᴰ·tail, List·Memᴰ·not-nil, List·Memᴰ·append-cases, Memᴰ·append-right}
 use Prim.Native.Nat.{ℕ, _+_, _≤_}
 use native.Mathlib.Omega.{arith}
-use native.Mathlib.Decide.{decLe}
 use lib.IntN.{ℤ}
-use lib.ListN.{length, drop, length-append, length-drop, drop-of-length-le}
+use lib.ListN.{length, drop, length-append, length-drop}
 use Rattle.rules.specs.declared.ReadAnswer.{ReadAnswer}
-use Rattle.rules.specs.Lists.{In, cut, sumOf}
+use Rattle.rules.specs.Lists.{In, cut, joined, sumOf}
 use Rattle.rules.specs.Numbers.{maxText, readPlace}
-use Rattle.rules.specs.Text.{Piece, Sizes, isEmpty, isBlank, placedFrom, tokensFrom}
-use Rattle.rules.specs.Reading.{behind}
+use Rattle.rules.specs.Text.{Piece, Sizes, isEmpty, isLf, isBlank, isComment, placedFrom, tokensIn, linesRead, tokensFrom}
+use Rattle.rules.specs.Reading.{endOf}
 use Rattle.rules.specs.Refusals.{FirstLine, AtToken, Refuses, short-buffer, long-text, no-header, bad-header}
 use Rattle.rules.specs.Refusals.{large-header, bad-token, token-behind, token-over-vars, many-tokens, short-text}
-use Rattle.rules.proofs.ListLaws.{keep-sound}
+use Rattle.rules.proofs.ListLaws.{keep-sound, map-in}
 use Rattle.rules.proofs.CutLaws.{Cut, last, piece, cut-exists}
 use Rattle.rules.proofs.LineLaws.{first-line-sound}
 
@@ -36,11 +36,33 @@ placed-place at [] i = absurd (List·Memᴰ·not-nil i)
 placed-place at (bs ∷ bss) (List·Memᴰ·head e) = rw e (omega arith)
 placed-place at (bs ∷ bss) (List·Memᴰ·tail i) = omega (arith, placed-place (at + length bs + 1) bss i)
 
+-- a token lies within its line
+in-joined : {A : Type 0} {x : A} (xss : List (List A)) → In x (joined xss) → (xs : List A) × In xs xss × In x xs
+in-joined [] i = absurd (List·Memᴰ·not-nil i)
+in-joined {A} {x} (xs ∷ xss) i = go (List·Memᴰ·append-cases xs i) (in-joined xss)
+  where
+    go : In x xs ⊎ In x (joined xss) → (In x (joined xss) → (ys : List A) × In ys xss × In x ys) → (ys : List A) × In ys (xs ∷ xss) × In x ys
+    go (inl j) ih = (xs, List·Memᴰ·head refl, j)
+    go (inr j) ih = let (ys, k, l) = ih j in (ys, List·Memᴰ·tail k, l)
+
+token-in : (line : Piece) {t : Piece} → In t (tokensIn line) → t .at ≤ line .at + length (line .bytes)
+token-in line i =
+    let (j, e) = keep-sound (λ (t : Piece). not (isEmpty (t .bytes))) (placedFrom (line .at) (cut isBlank (line .bytes))) i in
+    omega (arith, placed-place (line .at) (cut isBlank (line .bytes)) j, cut-length (cut-exists isBlank (line .bytes)))
+
+in-linesRead : {line : Piece} (lines : List Piece) → In line (linesRead lines) → In line lines
+in-linesRead [] i = i
+in-linesRead (l ∷ ls) (List·Memᴰ·head e) = List·Memᴰ·head e
+in-linesRead (l ∷ ls) (List·Memᴰ·tail i) = List·Memᴰ·tail (keep-sound (λ (z : Piece). not (isComment (z .bytes))) ls i .0)
+
 pub token-place : (at : ℕ) (xs : List ℕ) {t : Piece} → In t (tokensFrom at xs) → t .at ≤ at + length xs
 unfolding tokensFrom
-token-place at xs i =
-    let (j, e) = keep-sound (λ (t : Piece). not (isEmpty (t .bytes))) (placedFrom at (cut isBlank xs)) i in
-    omega (arith, placed-place at (cut isBlank xs) j, cut-length (cut-exists isBlank xs))
+token-place at xs {t} i =
+    let lines = placedFrom at (cut isLf xs) in
+    let (ts, j, k) = in-joined (map tokensIn (linesRead lines)) i in
+    let (line, m, e) = map-in tokensIn (linesRead lines) j in
+    let n : In t (tokensIn line) = subst (λ (us : List Piece). In t us) e k in
+    omega (arith, token-in line n, placed-place at (cut isLf xs) (in-linesRead lines m), cut-length (cut-exists isLf xs))
 
 pub line-place : {text : List ℕ} {line : Piece} → FirstLine text line → line .at + length (line .bytes) ≤ length text
 line-place {text} {line} f =
@@ -49,21 +71,11 @@ line-place {text} {line} f =
 
 -- ---- the place of a refusal
 
--- there is a token only where the text goes on behind the header line
-behind-text : (n : ℕ) (text : List ℕ) {t : Piece} → In t (tokensFrom n (drop n text)) → n ≤ length text
-unfolding tokensFrom
-behind-text n text i = go (decLe n (length text)) i
-  where
-    go : {t : Piece} → Dec (n ≤ length text) → In t (tokensFrom n (drop n text)) → n ≤ length text
-    go (yes h) i = h
-    go (no h) i =
-        let e : drop n text ≡ [] = drop-of-length-le text {i = n} (omega arith) in absurd (List·Memᴰ·not-nil (rw e at i))
-
 at-token-place : {room : ℕ} {text : List ℕ} {s : Sizes} {es : List ℤ} {t : Piece} → AtToken room text s es t → t .at ≤ maxText
 at-token-place {text = text} {t = t} w =
-    let n = behind (w .line) in
+    let n = endOf (w .line) in
     let i : In t (tokensFrom n (drop n text)) = rw (w .tokens) (Memᴰ·append-right (w .before) (List·Memᴰ·head refl)) in
-    omega (arith, token-place n (drop n text) i, length-drop n text, behind-text n text i, w .begun .text-fits)
+    omega (arith, token-place n (drop n text) i, length-drop n text, line-place (w .headed .first-line), w .begun .text-fits)
 
 pub refuses-place : {room : ℕ} {text : List ℕ} {a : ReadAnswer} → Refuses room text a → readPlace a ≤ maxText
 refuses-place (short-buffer h) = omega arith
@@ -71,7 +83,7 @@ refuses-place (long-text h k) = omega arith
 refuses-place (no-header b h) = b .text-fits
 refuses-place (bad-header line b f h) = omega (arith, line-place f, b .text-fits)
 refuses-place (large-header line v c b f h k) = omega (arith, line-place f, b .text-fits)
-refuses-place (bad-token s es t w h) = at-token-place w
+refuses-place (bad-token s es t w h k) = at-token-place w
 refuses-place (token-behind s es t l w h k) = at-token-place w
 refuses-place (token-over-vars s es t l w h k u) = at-token-place w
 refuses-place (many-tokens s es t l w h k u m) = at-token-place w

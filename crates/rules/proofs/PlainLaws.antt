@@ -7,7 +7,6 @@
 --   clauses-of-entriesOf           the entries of a formula are its clauses, each ended by 0
 --   numeral-of-decimal             the digits of a number below 10 to the 9 are a numeral
 --   token-plainEntry               a literal printed is a token that says it
---   body-blank                     a blank may be put in front of a body
 --   body-plainClause, body-plain   a clause, and all clauses, printed are a body that says their entries
 --   header-plain                   the header printed is a header line
 --   length-plainClause, length-plain     at most 5 bytes an entry, and 15 for the header line
@@ -29,10 +28,11 @@ use Rattle.rules.specs.Lists.{In, any, joined}
 use Rattle.rules.specs.Numbers.{maxVars, maxClauses}
 use Rattle.rules.specs.Meaning.{varOf, LitUpTo, Clause, leading, clauses}
 use Rattle.rules.specs.Reading.{isZero}
-use Rattle.rules.specs.Grammar.{IsBlank, Blanks, Before, Gap, Digits, Numeral, Header, Token, TokenEnd, Body, Text, ClausesOf, Dimacs}
+use Rattle.rules.specs.Grammar.{IsBlank, Before, Gap, Digits, Numeral, Header, Token, TokenEnd, LineEnd, Body, Text, ClausesOf, Dimacs}
 use Rattle.rules.specs.Plain.{decimal, plainEntry, plainClause, plainHeader, plain, entriesOf, Within}
 use Rattle.rules.proofs.ListLaws.{never, none-of-any, any-of-none, eqz-other}
-use Rattle.rules.proofs.ByteLaws.{blank-complete, blanks-sound, blanks-complete, gaps-sound, noLf-sound, digits-sound, noZero-sound, noZero-complete}
+use Rattle.rules.proofs.ByteLaws.{gaps-sound, noLf-sound, digits-sound, noZero-sound, noZero-complete}
+use Rattle.rules.proofs.GrammarLaws.{no-blanks, body-blank}
 use Rattle.rules.proofs.DecimalLaws.{decimal-digits, decimal-some, decimal-most, decimal-vars, decimal-clauses, numeral-decimal}
 
 -- ---- entries and clauses
@@ -78,16 +78,6 @@ token-plainEntry (pos n) h = Token.plain (numeral-of-decimal n h)
 token-plainEntry (negsuc n) h = Token.minus (numeral-of-decimal (suc n) h)
 
 -- ---- the body
-
-no-blanks : Blanks []
-no-blanks = blanks-sound [] refl
-
-blanks-cons : {b : ℕ} {bs : List ℕ} → IsBlank b → Blanks bs → Blanks (b ∷ bs)
-blanks-cons {b} {bs} e s = blanks-sound (b ∷ bs) (rw (blank-complete e) (blanks-complete s))
-
-pub body-blank : {b : ℕ} {bs : List ℕ} {es : List ℤ} → IsBlank b → Body bs es → Body (b ∷ bs) es
-body-blank e (Body.blanks s) = Body.blanks (blanks-cons e s)
-body-blank e (Body.token s t d w) = Body.token (blanks-cons e s) t d w
 
 token-zero : Token (48 ∷ []) (pos 0)
 token-zero = Token.plain {ds = 48 ∷ []} (record { digits = Digits.digit-behind 0 Digits.no-digits (omega arith); some = omega arith; most = omega arith })
@@ -172,10 +162,11 @@ module _ {vars : ℕ} {F : List Clause} (w : Within vars F) where
   pub text-plain : Text (plain vars F) vars (length F) (entriesOf F)
   unfolding plain
   text-plain =
-      Text.with-body
+      Text.text
       Before.nothing
       (header-plain vars (length F) (omega (arith, w .vars-fit)) (omega (arith, w .clauses-fit)))
-      (body-plain F (λ cl i l j. omega (arith, literal-le cl i l j)))
+      LineEnd.at-lf
+      (body-blank IsBlank.lf (body-plain F (λ cl i l j. omega (arith, literal-le cl i l j))))
 
 pub entriesOf-le : (vars : ℕ) (F : List Clause) → ((cl : Clause) → In cl F → (l : ℤ) → In l cl → LitUpTo vars l) → (l : ℤ) → In l (entriesOf F) → varOf l ≤ vars
 entriesOf-le vars [] h l i = absurd (List·Memᴰ·not-nil i)

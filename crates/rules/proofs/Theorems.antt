@@ -14,10 +14,10 @@ use Rattle.rules.specs.declared.RunAnswer.{RunAnswer}
 use Rattle.rules.specs.declared.Report.{Report}
 use Rattle.rules.specs.declared.ClauseState.the-variants.{False}
 use Rattle.rules.specs.Lists.{In, all, count}
-use Rattle.rules.specs.Numbers.{maxEntries, readNumber, readPlace}
+use Rattle.rules.specs.Numbers.{maxText, maxEntries, readNumber, readPlace}
 use Rattle.rules.specs.Text.{Sizes}
 use Rattle.rules.specs.Reading.{readingOf, filled, entriesAfter, Reads}
-use Rattle.rules.specs.Grammar.{Dimacs}
+use Rattle.rules.specs.Grammar.{NoLf, TokenEnd, WithHeader, Dimacs}
 use Rattle.rules.specs.Refusals.{Refuses}
 use Rattle.rules.specs.Plain.{decimal, plain, entriesOf, Within}
 use Rattle.rules.specs.Meaning.{Clause, Values, clauses, LitUpTo, Proper}
@@ -45,6 +45,7 @@ use Rattle.rules.proofs.RefusedRuns as refused-runs
 use Rattle.rules.proofs.BufferTheorems as buffers
 use Rattle.rules.proofs.ReadingTheorems as reading
 use Rattle.rules.proofs.TextTheorems as texts
+use Rattle.rules.proofs.CommentTheorems as comments
 use Rattle.rules.proofs.PrintedLaws as printed
 use Rattle.rules.proofs.TableLaws as table-laws
 use Rattle.rules.proofs.TableTheorems as tables
@@ -95,6 +96,17 @@ pub reader-round-trip : (vars : ℕ) (F : List Clause) (before : List ℤ) → W
     × (entriesAfter (plain vars F) before ≡ filled (entriesOf F) before)
     × (clauses (entriesOf F) ≡ F)
 reader-round-trip = texts.round-trip
+
+-- A comment line put at the start of any line behind the header changes neither V, C nor the entries.
+pub reader-comment : {front : List ℕ} (cs back : List ℕ) {vars clauses : ℕ} {es : List ℤ} → WithHeader front → NoLf cs
+    → length (front ++ 10 ∷ 99 ∷ cs ++ 10 ∷ back) ≤ maxText
+    → Dimacs (front ++ 10 ∷ back) vars clauses es ↔ Dimacs (front ++ 10 ∷ 99 ∷ cs ++ 10 ∷ back) vars clauses es
+reader-comment = comments.comment-line
+
+-- An accepted text, whether or not LF ends it, with a line `%` and any bytes behind it is accepted with the same V, C and entries.
+pub reader-percent : (text tail : List ℕ) {vars clauses : ℕ} {es : List ℤ} → TokenEnd tail → length (text ++ 10 ∷ 37 ∷ tail) ≤ maxText
+    → Dimacs text vars clauses es ⊎ Dimacs (text ++ 10 ∷ []) vars clauses es → Dimacs (text ++ 10 ∷ 37 ∷ tail) vars clauses es
+reader-percent = comments.percent-line
 
 -- ---- closing
 

@@ -6,10 +6,11 @@
 --   blank-of-gap, digit-above, digit-most, not-gap-of-digit, not-lf-of-gap     bytes
 --   numeral-sound, numeral-complete, numeral-digits, numeral-says     1 to 9 digits; word-of-numeral: they have no blank
 --   entry-sound, entry-complete, entry-none     a token and the entry it says; word-of-token: it has no blank
+--   percent-sound, percent-none   `%` is no entry; token-not-percent: an entry is no `%`
 --   skipped-sound, skipped-complete     lines before the header
 --
 -- Assumes nothing.
-use mathlib.Core.Path.{_≡_, refl, subst}
+use mathlib.Core.Path.{_≡_, refl, ap, subst}
 use mathlib.Core.Bool.{Bool, true, false, _&&_, _||_, or-true}
 use mathlib.Core.List.{List, [], _∷_, _++_}
 use mathlib.Core.Option.{Option, none, some}
@@ -20,9 +21,10 @@ use lib.IntN.{ℤ, pos, negsuc}
 use lib.ListN.{length}
 use borrow.Author.Tests.{eqb-true, ne-eqb, leb-true, le-leb}
 use Rattle.rules.specs.Lists.{any, all}
-use Rattle.rules.specs.Text.{isLf, isGap, isBlank, isDigit, isNumeral, numeral, Piece, isComment, isSkipped, negativeOf, entryIf, signedIf, entryOf}
+use Rattle.rules.specs.Text.{isLf, isGap, isBlank, isDigit, isNumeral, numeral, Piece, isComment, isSkipped, isPercent}
+use Rattle.rules.specs.Text.{negativeOf, entryIf, signedIf, entryOf}
 use Rattle.rules.specs.Grammar.{NoLf, Skipped, blanks, comment, Digits, Numeral, Token, plain, minus}
-use Rattle.rules.proofs.ListLaws.{apart, never, not-true, and-left, and-right, all-sound, all-complete, any-of-none, any-append, or-right}
+use Rattle.rules.proofs.ListLaws.{apart, never, not-true, and-left, and-right, all-sound, all-complete, any-of-none, any-append, or-right, eqs-sound}
 use Rattle.rules.proofs.ByteLaws.{blanks-sound, blanks-complete, noLf-sound, noLf-complete, digits-sound, digits-complete}
 use Rattle.rules.proofs.CutLaws.{Word}
 
@@ -130,6 +132,16 @@ entry-none w f = none-of-not (entryOf w) (λ l e. f l (entry-sound w e))
 pub word-of-token : {w : List ℕ} {l : ℤ} → Token w l → Word isBlank w
 word-of-token (plain m) = word-of-numeral m
 word-of-token (minus m) = record { some = omega arith; none = word-of-numeral m .none }
+
+pub percent-sound : {w : List ℕ} → isPercent w ≡ true → w ≡ 37 ∷ []
+percent-sound {w} h = eqs-sound w (37 ∷ []) h
+
+pub percent-none : {w : List ℕ} {l : ℤ} → w ≡ 37 ∷ [] → Token w l → ⊥
+unfolding entryOf
+percent-none e t = not-none (entry-complete t) (ap entryOf e)
+
+pub token-not-percent : {w : List ℕ} {l : ℤ} → Token w l → isPercent w ≡ false
+token-not-percent {w} t = not-true (isPercent w) (λ h. percent-none (percent-sound h) t)
 
 -- ---- lines before the header
 

@@ -12,11 +12,11 @@
 use mathlib.Core.Path.{_≡_, refl, sym, _∙_, ap, subst}
 use mathlib.Core.Logic.{_⊎_, inl, inr}
 use mathlib.Core.Bool.{true, false}
-use mathlib.Core.List.{List, [], _∷_, _++_}
+use mathlib.Core.List.{List, [], _∷_, _++_, append-nil}
 use mathlib.Core.Option.{Option, none, some}
 use Prim.Native.Nat.{ℕ, _+_, _≤_, _<_}
 use native.Mathlib.Omega.{arith}
-use lib.Dec.{leb, ltb}
+use lib.Dec.{leb}
 use lib.IntN.{ℤ}
 use lib.ListN.{length, drop}
 use borrow.Author.Tests.{leb-true, le-leb, lt-ltb, le-ltb}
@@ -24,7 +24,7 @@ use Rattle.rules.specs.declared.ReadAnswer.{ReadAnswer}
 use Rattle.rules.specs.Lists.{all, count}
 use Rattle.rules.specs.Numbers.{maxText, maxVars, maxClauses, maxEntries}
 use Rattle.rules.specs.Text.{Piece, Sizes, linesOf, tokensFrom, isSkipped, headerOf}
-use Rattle.rules.specs.Reading.{Judged, accepted, refused, isZero, behind, fits, judgeEnd, judgeTokens, judgeHeader, judgeLines, judge}
+use Rattle.rules.specs.Reading.{Judged, accepted, refused, isZero, endOf, fits, judgeTokens, judgeHeader, judgeLines, judge}
 use Rattle.rules.specs.Grammar.{Header}
 use Rattle.rules.specs.Refusals.{Begun, FirstLine, Headed, Fine, AtToken, Refuses, short-buffer, long-text, no-header}
 use Rattle.rules.specs.Refusals.{bad-header, large-header, bad-token, token-behind, token-over-vars, many-tokens, short-text}
@@ -33,17 +33,22 @@ use Rattle.rules.proofs.TokenLaws.{not-none}
 use Rattle.rules.proofs.HeaderLaws.{header-sound, header-complete, header-none}
 use Rattle.rules.proofs.LineLaws.{first-line-sound, first-line-exists}
 use Rattle.rules.proofs.JudgeLaws.{Passes, count-of-passes, fine-of-passes, passes-of-fine, Stop, bad, after-last, above, over, Stopped}
-use Rattle.rules.proofs.JudgeLaws.{tokens-cases, withEntries, withEntries-refused, withEntries-accepted, judgeTokens-end, judgeTokens-stopped}
+use Rattle.rules.proofs.JudgeLaws.{Closed, none-left, percent, Finished}
+use Rattle.rules.proofs.JudgeLaws.{tokens-cases, withEntries-refused, judgeTokens-finished, judgeTokens-end, judgeTokens-stopped}
 
 abbrev pub tokensOf : List ℕ → Piece → List Piece
-tokensOf text line = tokensFrom (behind line) (drop (behind line) text)
+tokensOf text line = tokensFrom (endOf line) (drop (endOf line) text)
 
--- its tokens have nothing to refuse, and complete C clauses
+-- its tokens have nothing to refuse up to where no more is read, and complete C clauses
 pub record Whole (room : ℕ) (text : List ℕ) (s : Sizes) (es : List ℤ) : Type 0 where
   pub begun : Begun room text
   pub line : Piece
   pub headed : Headed text line s
-  pub fine : Fine s (tokensOf text line) es
+  pub before : List Piece
+  pub rest : List Piece
+  pub tokens : tokensOf text line ≡ before ++ rest
+  pub fine : Fine s before es
+  pub closed : Closed s (count isZero es) rest
   pub exactly : count isZero es ≡ s .clauses
 
 pub data Verdict (room : ℕ) (text : List ℕ) : Judged → Type 0 where
@@ -113,10 +118,6 @@ module _ {room : ℕ} {text : List ℕ} where
         stop = h;
       })
 
-  judge-end : {line : Piece} {s : Sizes} {es : List ℤ} → Begun room text → Headed text line s → Fine s (tokensOf text line) es
-      → judge room text ≡ withEntries es (judgeEnd (ltb (count isZero es) (s .clauses)) s (length text))
-  judge-end {s} b h f = judge-headed b h ∙ judgeTokens-end s (length text) (passes-of-fine f)
-
   judge-of-refuses : {a : ReadAnswer} → Refuses room text a → judge room text ≡ refused a
   unfolding judge
   judge-of-refuses (short-buffer h) = rw (lt-ltb room maxEntries h)
@@ -126,17 +127,19 @@ module _ {room : ℕ} {text : List ℕ} where
       judge-first b f ∙ ap (λ (o : Option Sizes). judgeHeader o text line) (header-none (line .bytes) (first-line-sound f .one-line) h)
   judge-of-refuses (large-header line v c b f h k) =
       judge-first b f ∙ ap (λ (o : Option Sizes). judgeHeader o text line) (header-complete h) ∙ rw (too-large v c k)
-  judge-of-refuses (bad-token s es t w h) = judge-at-token w (bad h)
+  judge-of-refuses (bad-token s es t w h k) = judge-at-token w (bad h (λ e. omega (arith, k e)))
   judge-of-refuses (token-behind s es t l w h k) = judge-at-token w (after-last l h (omega arith))
   judge-of-refuses (token-over-vars s es t l w h k u) = judge-at-token w (above l h (omega arith) u)
   judge-of-refuses (many-tokens s es t l w h k u m) = judge-at-token w (over l h (omega arith) u (omega arith))
   judge-of-refuses (short-text line s es b h f k) =
-      judge-end b h f ∙ rw (lt-ltb (count isZero es) (s .clauses) k) (withEntries-refused es (ReadAnswer.ShortText (length text)))
+      judge-headed b h ∙ judgeTokens-end s (length text) (passes-of-fine f) ∙
+      rw (lt-ltb (count isZero es) (s .clauses) k) (withEntries-refused es (ReadAnswer.ShortText (length text)))
 
   pub judge-of-verdict : {j : Judged} → Verdict room text j → judge room text ≡ j
   judge-of-verdict (refuses r) = judge-of-refuses r
   judge-of-verdict (accepts {s} {es} w) =
-      judge-end (w .begun) (w .headed) (w .fine) ∙ rw (le-ltb (count isZero es) (s .clauses) (omega (arith, w .exactly))) (withEntries-accepted es s)
+      judge-headed (w .begun) (w .headed) ∙
+      judgeTokens-finished s (length text) (w .tokens) (passes-of-fine (w .fine)) (w .closed) (omega (arith, w .exactly))
 
 -- ---- each text has a verdict
 
@@ -149,31 +152,41 @@ module _ (room : ℕ) (text : List ℕ) where
       at-token = record { begun = b; line = line; headed = h; before = d .before; after = d .after; tokens = d .tokens; fine = fine-of-passes (d .passes) }
 
       go : {a : ReadAnswer} → Stop s (0 + count isZero (d .es)) (0 + length (d .es)) (d .token) a → Refuses room text a
-      go (bad f) = bad-token s (d .es) (d .token) at-token f
+      go (bad f k) = bad-token s (d .es) (d .token) at-token f (λ e. omega (arith, k e))
       go (after-last l w k) = token-behind s (d .es) (d .token) l at-token w (omega (arith, count-of-passes (d .passes) (omega arith)))
       go (above l w k u) = token-over-vars s (d .es) (d .token) l at-token w (omega arith) u
       go (over l w k u m) = many-tokens s (d .es) (d .token) l at-token w (omega arith) u (omega (arith, fine-of-passes (d .passes) .most))
 
-  verdict-of-end : (line : Piece) (s : Sizes) (es : List ℤ) → Begun room text → Headed text line s
-      → Passes s 0 0 (tokensOf text line) es → (s .clauses ≤ count isZero es) ⊎ (count isZero es < s .clauses) → Judgement room text
-  verdict-of-end line s es b h p (inl k) = (
+  verdict-of-end : (line : Piece) (s : Sizes) (es : List ℤ) {before rest : List Piece} → Begun room text → Headed text line s
+      → tokensOf text line ≡ before ++ rest → Passes s 0 0 before es → Closed s (count isZero es) rest
+      → (s .clauses ≤ count isZero es) ⊎ (count isZero es < s .clauses) → Judgement room text
+  verdict-of-end line s es {before} {rest} b h e p c (inl k) = (
     accepted s es,
     accepts (record {
       begun = b;
       line = line;
       headed = h;
+      before = before;
+      rest = rest;
+      tokens = e;
       fine = fine-of-passes p;
+      closed = c;
       exactly = omega
           (arith, count-of-passes p (omega arith));
     }),
   )
-  verdict-of-end line s es b h p (inr k) = (refused (ReadAnswer.ShortText (length text)), refuses (short-text line s es b h (fine-of-passes p) k))
+  verdict-of-end line s es {before} b h e p none-left (inr k) =
+      let f : Fine s (tokensOf text line) es = subst (λ (ts : List Piece). Fine s ts es) (sym (e ∙ append-nil before)) (fine-of-passes p) in
+      (refused (ReadAnswer.ShortText (length text)), refuses (short-text line s es b h f k))
+  verdict-of-end line s es b h e p (percent q c) (inr k) = absurd (omega arith)
 
   verdict-of-headed : (line : Piece) (s : Sizes) → Begun room text → Headed text line s → Judgement room text
   verdict-of-headed line s b h = go (tokens-cases s 0 0 (tokensOf text line))
     where
-      go : ((es : List ℤ) × Passes s 0 0 (tokensOf text line) es) ⊎ Stopped s 0 0 (tokensOf text line) → Judgement room text
-      go (inl p) = verdict-of-end line s (p .0) b h (p .1) (le-or-lt (s .clauses) (count isZero (p .0)))
+      go : Finished s 0 0 (tokensOf text line) ⊎ Stopped s 0 0 (tokensOf text line) → Judgement room text
+      go (inl p) =
+          let c : Closed s (count isZero (p .es)) (p .rest) = subst (λ (i : ℕ). Closed s i (p .rest)) (omega arith) (p .closed) in
+          verdict-of-end line s (p .es) b h (p .tokens) (p .passes) c (le-or-lt (s .clauses) (count isZero (p .es)))
       go (inr d) = verdict-of-stopped line s b h d
 
   verdict-of-first : (line : Piece) → Begun room text → FirstLine text line → Judgement room text

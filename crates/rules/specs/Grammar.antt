@@ -60,7 +60,7 @@ pub data Header : List ℕ → ℕ → ℕ → Type 0 where
   header : {g h k v c end : List ℕ} {vars clauses : ℕ} → Gap g → Gap h → Numeral v vars → Gap k → Numeral c clauses
       → Blanks end → NoLf end → Header (112 ∷ g ++ 99 ∷ 110 ∷ 102 ∷ h ++ v ++ k ++ c ++ end) vars clauses
 
--- ---- tokens behind it
+-- ---- behind it: tokens, with blanks and comment lines between them
 
 pub data Token : List ℕ → ℤ → Type 0 where
   plain : {ds : List ℕ} {n : ℕ} → Numeral ds n → Token ds (pos n)
@@ -71,15 +71,26 @@ pub data TokenEnd : List ℕ → Type 0 where
   at-end : TokenEnd []
   at-blank : {b : ℕ} {bs : List ℕ} → IsBlank b → TokenEnd (b ∷ bs)
 
+-- a line is ended by LF or the end of text
+pub data LineEnd : List ℕ → Type 0 where
+  at-end : LineEnd []
+  at-lf : {bs : List ℕ} → LineEnd (10 ∷ bs)
+
+-- from within a line on, or from its end. A comment's `c` stands right behind an LF; a `%` may end it, with anything behind
 pub data Body : List ℕ → List ℤ → Type 0 where
   blanks : {bs : List ℕ} → Blanks bs → Body bs []
+  comment : {bs cs rest : List ℕ} {es : List ℤ} → Blanks bs → NoLf cs → LineEnd rest → Body rest es → Body (bs ++ 10 ∷ 99 ∷ cs ++ rest) es
   token : {bs w rest : List ℕ} {l : ℤ} {es : List ℤ} → Blanks bs → Token w l → TokenEnd rest → Body rest es → Body (bs ++ w ++ rest) (l ∷ es)
+  percent : {bs rest : List ℕ} → Blanks bs → TokenEnd rest → Body (bs ++ 37 ∷ rest) []
 
--- the header line ends at LF or the end of text
+-- the body begins with the LF that ends the header line
 pub data Text : List ℕ → ℕ → ℕ → List ℤ → Type 0 where
-  header-only : {a h : List ℕ} {vars clauses : ℕ} → Before a → Header h vars clauses → Text (a ++ h) vars clauses []
-  with-body : {a h rest : List ℕ} {vars clauses : ℕ} {es : List ℤ} → Before a
-      → Header h vars clauses → Body rest es → Text (a ++ h ++ 10 ∷ rest) vars clauses es
+  text : {a h rest : List ℕ} {vars clauses : ℕ} {es : List ℤ} → Before a
+      → Header h vars clauses → LineEnd rest → Body rest es → Text (a ++ h ++ rest) vars clauses es
+
+-- the front of a text, up to the end of the header line or of a later line
+pub data WithHeader : List ℕ → Type 0 where
+  with-header : {a h rest : List ℕ} {vars clauses : ℕ} → Before a → Header h vars clauses → LineEnd rest → WithHeader (a ++ h ++ rest)
 
 -- ---- entries: exactly n clauses, each ended by 0
 

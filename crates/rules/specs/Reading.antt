@@ -13,7 +13,7 @@ use Rattle.rules.specs.declared.Reading.{Reading}
 use Rattle.rules.specs.Lists.{countIf, Check, check, firstOf, eqz}
 use Rattle.rules.specs.Numbers.{maxText, maxVars, maxClauses, maxEntries}
 use Rattle.rules.specs.Meaning.{varOf}
-use Rattle.rules.specs.Text.{Piece, Sizes, linesOf, tokensFrom, isSkipped, headerOf, entryOf}
+use Rattle.rules.specs.Text.{Piece, Sizes, linesOf, tokensFrom, isSkipped, headerOf, isPercent, entryOf}
 
 -- a text read as V, C and the entry list, or refused
 pub data Judged : Type 0 where
@@ -48,18 +48,28 @@ abbrev pub judgeEnd : Bool → Sizes → ℕ → Judged
 judgeEnd true s end = refused (ReadAnswer.ShortText end)
 judgeEnd false s end = accepted s []
 
+-- a `%` where C clauses are complete ends the text, and nothing behind it is read
+abbrev pub endsText : Sizes → ℕ → List ℕ → Bool
+endsText s k w = isPercent w && leb (s .clauses) k
+
+abbrev pub orEnded : Bool → Sizes → Judged → Judged
+orEnded true s rest = accepted s []
+orEnded false s rest = rest
+
 -- inside a clause C clauses are not yet complete: a token behind the last one was refused
 unfoldable pub judgeTokens : Sizes → ℕ → ℕ → ℕ → List Piece → Judged
 judgeTokens s end k n [] = judgeEnd (ltb k (s .clauses)) s end
-judgeTokens s end k n (t ∷ ts) = judgeToken (entryOf (t .bytes)) s k n (t .at) (λ j. judgeTokens s end j (suc n) ts)
+judgeTokens s end k n (t ∷ ts) =
+    orEnded (endsText s k (t .bytes)) s (judgeToken (entryOf (t .bytes)) s k n (t .at) (λ j. judgeTokens s end j (suc n) ts))
 
--- ---- the header line, 3 before 4; then what stands behind its LF
+-- ---- the header line, 3 before 4; then what stands behind it, from its LF on
 
-abbrev pub behind : Piece → ℕ
-behind line = line .at + length (line .bytes) + 1
+-- the place of the LF that ends a line, or the end of the text
+abbrev pub endOf : Piece → ℕ
+endOf line = line .at + length (line .bytes)
 
 abbrev pub judgeSizes : Bool → Sizes → List ℕ → Piece → Judged
-judgeSizes true s text line = judgeTokens s (length text) 0 0 (tokensFrom (behind line) (drop (behind line) text))
+judgeSizes true s text line = judgeTokens s (length text) 0 0 (tokensFrom (endOf line) (drop (endOf line) text))
 judgeSizes false s text line = refused (ReadAnswer.LargeHeader (line .at))
 
 abbrev pub fits : Sizes → Bool

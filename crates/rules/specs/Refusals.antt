@@ -12,7 +12,7 @@ use Rattle.rules.specs.Lists.{In, all, count}
 use Rattle.rules.specs.Numbers.{maxText, maxVars, maxClauses, maxEntries}
 use Rattle.rules.specs.Meaning.{varOf}
 use Rattle.rules.specs.Text.{Piece, Sizes, linesOf, tokensFrom, isSkipped}
-use Rattle.rules.specs.Reading.{isZero, behind}
+use Rattle.rules.specs.Reading.{isZero, endOf}
 use Rattle.rules.specs.Grammar.{Header, Token}
 
 -- neither 1 nor 2
@@ -54,7 +54,7 @@ pub record AtToken (room : ℕ) (text : List ℕ) (s : Sizes) (es : List ℤ) (t
   pub headed : Headed text line s
   pub before : List Piece
   pub after : List Piece
-  pub tokens : tokensFrom (behind line) (drop (behind line) text) ≡ before ++ t ∷ after
+  pub tokens : tokensFrom (endOf line) (drop (endOf line) text) ≡ before ++ t ∷ after
   pub fine : Fine s before es
 
 pub data Refuses (room : ℕ) (text : List ℕ) : ReadAnswer → Type 0 where
@@ -68,9 +68,9 @@ pub data Refuses (room : ℕ) (text : List ℕ) : ReadAnswer → Type 0 where
   -- 4
   large-header : (line : Piece) (v c : ℕ) → Begun room text → FirstLine text line → Header (line .bytes) v c
       → (maxVars < v) ⊎ (maxClauses < c) → Refuses room text (ReadAnswer.LargeHeader (line .at))
-  -- 5, 6, 7, 8 at one token
-  bad-token : (s : Sizes) (es : List ℤ) (t : Piece) → AtToken room text s es t
-      → ((l : ℤ) → Token (t .bytes) l → ⊥) → Refuses room text (ReadAnswer.BadToken (t .at))
+  -- 5, 6, 7, 8 at one token; 5 is not given to a `%` where C clauses are complete
+  bad-token : (s : Sizes) (es : List ℤ) (t : Piece) → AtToken room text s es t → ((l : ℤ) → Token (t .bytes) l → ⊥)
+      → (t .bytes ≡ 37 ∷ [] → count isZero es < s .clauses) → Refuses room text (ReadAnswer.BadToken (t .at))
   token-behind : (s : Sizes) (es : List ℤ) (t : Piece) (l : ℤ) → AtToken room text s es t
       → Token (t .bytes) l → count isZero es ≡ s .clauses → Refuses room text (ReadAnswer.TokenBehind (t .at))
   token-over-vars : (s : Sizes) (es : List ℤ) (t : Piece) (l : ℤ) → AtToken room text s es t → Token (t .bytes) l
@@ -79,5 +79,5 @@ pub data Refuses (room : ℕ) (text : List ℕ) : ReadAnswer → Type 0 where
       → count isZero es < s .clauses → varOf l ≤ s .vars → length es ≡ maxEntries → Refuses room text (ReadAnswer.ManyTokens (t .at))
   -- 9: the text ends inside a clause or before C clauses
   short-text : (line : Piece) (s : Sizes) (es : List ℤ) → Begun room text
-      → Headed text line s → Fine s (tokensFrom (behind line) (drop (behind line) text)) es
+      → Headed text line s → Fine s (tokensFrom (endOf line) (drop (endOf line) text)) es
       → count isZero es < s .clauses → Refuses room text (ReadAnswer.ShortText (length text))

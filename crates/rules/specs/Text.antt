@@ -1,13 +1,13 @@
 -- docs/RULES.md, "The text": bytes, lines, the header line, tokens. A text is split here; specs/Reading.antt judges it.
 -- Assumes nothing.
 use mathlib.Core.Bool.{Bool, true, false, not, _&&_, _||_}
-use mathlib.Core.List.{List, [], _∷_}
+use mathlib.Core.List.{List, [], _∷_, map}
 use mathlib.Core.Option.{Option, none, some}
 use Prim.Native.Nat.{ℕ, zero, suc, _+_, _-_, _*_}
 use lib.Dec.{eqb, leb}
 use lib.IntN.{ℤ, pos, negsuc}
 use lib.ListN.{length}
-use Rattle.rules.specs.Lists.{all, keep, cut, eqs}
+use Rattle.rules.specs.Lists.{all, keep, cut, joined, eqs}
 
 -- ---- bytes
 
@@ -57,10 +57,6 @@ placedFrom at (bs ∷ bss) = record { at = at; bytes = bs } ∷ placedFrom (at +
 unfoldable pub linesOf : List ℕ → List Piece
 linesOf text = placedFrom 0 (cut isLf text)
 
--- a token is a maximal run of bytes that are no blanks
-unfoldable pub tokensFrom : ℕ → List ℕ → List Piece
-tokensFrom at text = keep (λ t. not (isEmpty (t .bytes))) (placedFrom at (cut isBlank text))
-
 -- ---- the lines before the header: blanks, or a first byte `c`
 
 abbrev pub isComment : List ℕ → Bool
@@ -107,6 +103,25 @@ wordsOf (w ∷ ws) = w ∷ keep (λ v. not (isEmpty v)) ws
 
 unfoldable pub headerOf : List ℕ → Option Sizes
 headerOf line = sizesOf (wordsOf (cut isGap (trimmed line)))
+
+-- ---- behind the header line: the tokens of the lines that are no comments
+
+-- a token is a maximal run of bytes that are no blanks
+abbrev pub tokensIn : Piece → List Piece
+tokensIn line = keep (λ t. not (isEmpty (t .bytes))) (placedFrom (line .at) (cut isBlank (line .bytes)))
+
+-- from within a line on: its rest, and each later line whose first byte is not `c`
+abbrev pub linesRead : List Piece → List Piece
+linesRead [] = []
+linesRead (line ∷ lines) = line ∷ keep (λ l. not (isComment (l .bytes))) lines
+
+-- the tokens from within a line on, whose rest begins at the place `at`
+unfoldable pub tokensFrom : ℕ → List ℕ → List Piece
+tokensFrom at text = joined (map tokensIn (linesRead (placedFrom at (cut isLf text))))
+
+-- the token that may close a text
+abbrev pub isPercent : List ℕ → Bool
+isPercent w = eqs w (37 ∷ [])
 
 -- ---- tokens: an optional `-` and 1 to 9 digits; a minus before zeros alone is malformed
 

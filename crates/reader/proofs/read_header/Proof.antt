@@ -64,9 +64,6 @@ returns-2 c =
     (sym (at-header-of .header-of .ensures) ∙ at-h .h .given .1) (large (c .before)))
     (c .refused2 .ensures)
 
-add-read-tokens : tie.Need-add-read-tokens
-add-read-tokens c = search needs
-
 read-tokens-requires : tie.Need-read-tokens-requires
 read-tokens-requires c κs = search needs
 
@@ -99,7 +96,6 @@ read-header-spec =
     returns
     refused-requires-2
     returns-2
-    add-read-tokens
     read-tokens-requires
     same-length
     returns-3)

@@ -1,11 +1,12 @@
 -- `reader::tokens::read_tokens` meets its contract. The invariant of its loop, `Progress`: the entries before the cursor are
 -- stored, and put in front of what is left they make the whole. The measure is what is left of the text. Assumes nothing.
-use mathlib.Core.Path.{sym, _∙_}
 use Prim.Native.Nat.{_-_}
 use native.Mathlib.Omega.{arith}
 use borrow.Author.Needs.{needs}
 use lib.ListN.{length}
-use Rattle.reader.proofs.StepLaws.{held, Next, step-says}
+use Rattle.reader.specs.declared.tokens.Step.{Step}
+use Rattle.reader.specs.Steps.{After, left}
+use Rattle.reader.proofs.StepLaws.{held, step-says}
 use Rattle.reader.proofs.StoreLaws.{Progress, progress-start, progress-step, progress-refused, progress-ended}
 use Rattle.reader.proofs.tokens.read_tokens.Statement.{statement}
 use Rattle.reader.proofs.tokens.read_tokens.Tie as tie
@@ -19,15 +20,12 @@ abbrev μ-loop : tie.MeasureT-loop
 -- the entry that is stored, and what is left behind it
 stored :
     (c : tie.After-known-told2 Inv-loop μ-loop) →
-    Next (c .before .before .before .before .before .before .args .h) (c .before .before .before .before .before .before .args .text .now)
-    (c .before .before .before .before .loop .c)
-    (c .before .x .given .0 .0) (c .before .x .given .0 .1 .0)
+    let at-loop = c .before .before .before .before in
+    let s = at-loop .before .before .args in
+    After (s .h) (s .text .now) (at-loop .loop .c) (left (s .h) (s .text .now) (at-loop .loop .c)) (c .before .x .given .0 .0) (c .before .x .given .0 .1 .0)
 stored c =
-    let at-next-step = c .before .before .before in
-    let at-loop = at-next-step .before in
-    let start = at-loop .before .before in
-    let s = start .args in
-    step-says (s .h) (s .text .now) (at-loop .loop .c) _ (sym (at-next-step .next-step .ensures) ∙ c .before .x .given .1)
+    let x = c .before .x .given in
+    step-says (Step.Store (x .0 .0) (x .0 .1 .0)) (c .before .before .before .next-step .ensures) (x .1)
 
 loop-holds : tie.Need-loop-holds Inv-loop μ-loop
 loop-holds c =
@@ -55,7 +53,7 @@ returns c =
     let l = at-loop .loop in
     progress-refused (s .h) (s .text .now) (s .from) (s .entries .now) (start .pre .1) (l .c) (l .entries) (l .inv)
     (at-a .a .given .0 .0) (c .refused .result)
-    (step-says (s .h) (s .text .now) (l .c) _ (sym (at-next-step .next-step .ensures) ∙ at-a .a .given .1)) (c .refused .ensures)
+    (step-says (Step.Refused (at-a .a .given .0 .0)) (at-next-step .next-step .ensures) (at-a .a .given .1)) (c .refused .ensures)
 
 enum-told : tie.Need-enum-told Inv-loop μ-loop
 enum-told c = search needs
@@ -71,7 +69,7 @@ returns-2 c =
     let s = start .args in
     let l = at-loop .loop in
     progress-ended (s .h) (s .text .now) (s .from) (s .entries .now) (start .pre .1) (l .c) (l .entries) (l .inv)
-    (step-says (s .h) (s .text .now) (l .c) _ (sym (at-next-step .next-step .ensures) ∙ c .enum-told .given .1))
+    (step-says Step.TextEnd (at-next-step .next-step .ensures) (c .enum-told .given .1))
 
 enum-known-x : tie.Need-enum-known-x Inv-loop μ-loop
 enum-known-x c = search needs
