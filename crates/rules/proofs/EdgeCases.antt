@@ -93,7 +93,7 @@ textEdges =
     -- 6, and 5 before it
     reads (quoted "p cnf 1 1\n1 0 1") (refuses 6 14) ∷
     reads (quoted "p cnf 1 1\n1 0 x") (refuses 5 14) ∷
-    -- comments behind the header: from a line's first byte on, inside a clause too; a `c` behind a blank is a token
+    -- comments behind the header: from a line's first byte on, inside a clause too; a `c` behind another blank is a token
     reads (quoted "p cnf 2 1\nc\n1 2 0\n") (accepts 2 1 3) ∷
     reads (quoted "p cnf 2 1\n1\nc1 2 0\nc 9 x %\n2 0") (accepts 2 1 3) ∷
     reads (quoted "p cnf 2 1\n1 2 0\nc") (accepts 2 1 3) ∷

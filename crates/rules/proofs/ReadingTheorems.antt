@@ -128,7 +128,7 @@ module _ (text : List ℕ) (before : List ℤ) where
   length-refused (no-header b h) = length-cleared b
   length-refused (bad-header line b f h) = length-cleared b
   length-refused (large-header line v c b f h k) = length-cleared b
-  length-refused (bad-token s es t w h k) = length-cleared (w .begun)
+  length-refused (bad-token s es t w h) = length-cleared (w .begun)
   length-refused (token-behind s es t l w h k) = length-cleared (w .begun)
   length-refused (token-over-vars s es t l w h k u) = length-cleared (w .begun)
   length-refused (many-tokens s es t l w h k u m) = length-cleared (w .begun)

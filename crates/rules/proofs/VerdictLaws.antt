@@ -127,7 +127,7 @@ module _ {room : ℕ} {text : List ℕ} where
       judge-first b f ∙ ap (λ (o : Option Sizes). judgeHeader o text line) (header-none (line .bytes) (first-line-sound f .one-line) h)
   judge-of-refuses (large-header line v c b f h k) =
       judge-first b f ∙ ap (λ (o : Option Sizes). judgeHeader o text line) (header-complete h) ∙ rw (too-large v c k)
-  judge-of-refuses (bad-token s es t w h k) = judge-at-token w (bad h (λ e. omega (arith, k e)))
+  judge-of-refuses (bad-token s es t w h) = judge-at-token w (bad (h .no-entry) (λ e. omega (arith, h .not-closing e)))
   judge-of-refuses (token-behind s es t l w h k) = judge-at-token w (after-last l h (omega arith))
   judge-of-refuses (token-over-vars s es t l w h k u) = judge-at-token w (above l h (omega arith) u)
   judge-of-refuses (many-tokens s es t l w h k u m) = judge-at-token w (over l h (omega arith) u (omega arith))
@@ -152,7 +152,7 @@ module _ (room : ℕ) (text : List ℕ) where
       at-token = record { begun = b; line = line; headed = h; before = d .before; after = d .after; tokens = d .tokens; fine = fine-of-passes (d .passes) }
 
       go : {a : ReadAnswer} → Stop s (0 + count isZero (d .es)) (0 + length (d .es)) (d .token) a → Refuses room text a
-      go (bad f k) = bad-token s (d .es) (d .token) at-token f (λ e. omega (arith, k e))
+      go (bad f k) = bad-token s (d .es) (d .token) at-token (record { no-entry = f; not-closing = λ e. omega (arith, k e) })
       go (after-last l w k) = token-behind s (d .es) (d .token) l at-token w (omega (arith, count-of-passes (d .passes) (omega arith)))
       go (above l w k u) = token-over-vars s (d .es) (d .token) l at-token w (omega arith) u
       go (over l w k u m) = many-tokens s (d .es) (d .token) l at-token w (omega arith) u (omega (arith, fine-of-passes (d .passes) .most))

@@ -57,6 +57,11 @@ pub record AtToken (room : ℕ) (text : List ℕ) (s : Sizes) (es : List ℤ) (t
   pub tokens : tokensFrom (endOf line) (drop (endOf line) text) ≡ before ++ t ∷ after
   pub fine : Fine s before es
 
+-- no entry, and no `%` where C clauses are complete
+pub record Malformed (s : Sizes) (es : List ℤ) (t : Piece) : Type 0 where
+  pub no-entry : (l : ℤ) → Token (t .bytes) l → ⊥
+  pub not-closing : t .bytes ≡ 37 ∷ [] → count isZero es < s .clauses
+
 pub data Refuses (room : ℕ) (text : List ℕ) : ReadAnswer → Type 0 where
   -- 1 and 2
   short-buffer : room < maxEntries → Refuses room text ReadAnswer.ShortBuffer
@@ -68,9 +73,9 @@ pub data Refuses (room : ℕ) (text : List ℕ) : ReadAnswer → Type 0 where
   -- 4
   large-header : (line : Piece) (v c : ℕ) → Begun room text → FirstLine text line → Header (line .bytes) v c
       → (maxVars < v) ⊎ (maxClauses < c) → Refuses room text (ReadAnswer.LargeHeader (line .at))
-  -- 5, 6, 7, 8 at one token; 5 is not given to a `%` where C clauses are complete
-  bad-token : (s : Sizes) (es : List ℤ) (t : Piece) → AtToken room text s es t → ((l : ℤ) → Token (t .bytes) l → ⊥)
-      → (t .bytes ≡ 37 ∷ [] → count isZero es < s .clauses) → Refuses room text (ReadAnswer.BadToken (t .at))
+  -- 5, 6, 7, 8 at one token
+  bad-token : (s : Sizes) (es : List ℤ) (t : Piece) → AtToken room text s es t → Malformed s es t
+      → Refuses room text (ReadAnswer.BadToken (t .at))
   token-behind : (s : Sizes) (es : List ℤ) (t : Piece) (l : ℤ) → AtToken room text s es t
       → Token (t .bytes) l → count isZero es ≡ s .clauses → Refuses room text (ReadAnswer.TokenBehind (t .at))
   token-over-vars : (s : Sizes) (es : List ℤ) (t : Piece) (l : ℤ) → AtToken room text s es t → Token (t .bytes) l
