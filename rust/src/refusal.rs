@@ -20,12 +20,12 @@ pub enum Refusal {
         /// Start of its line.
         byte: usize,
     },
-    /// 5: a malformed token.
+    /// 5: a malformed token, or a `%` before the last clause is complete.
     BadToken {
         /// Its first byte.
         byte: usize,
     },
-    /// 6: a token after the last clause.
+    /// 6: a token after the last clause. A `%` there ends the text.
     TokenBehind {
         /// Its first byte.
         byte: usize,
