@@ -1,6 +1,5 @@
 -- The laws of a list that no rule refuses: its clauses are counted by its zeros, its starts are found, and buffers are cleared.
 --
---   length-clauses    as many clauses as zeros
 --   found-formula     the starts as they are found are those of a formula
 --   cleared           buffers that are set to 0 are cleared
 --   front-len         how long the front of a buffer is
@@ -23,14 +22,6 @@ use Rattle.formula.specs.Starts.{startsOf, StartsFound}
 use Rattle.formula.specs.Formula.{Formula}
 use Rattle.formula.proofs.StartsLaws.{length-leading, found-front}
 use Rattle.backbone.specs.First.{Cleared}
-
-pub length-clauses : (es : List ℤ) → length (clauses es) ≡ count isZero es
-length-clauses [] = refl
-length-clauses (pos zero ∷ es) = ap suc (length-clauses es)
-length-clauses (pos (suc n) ∷ es) =
-    length-leading (pos (suc n)) (clauses es) ∙ length-clauses es
-    ∙ sym (ap (λ (b : Bool). countIf b (count isZero es)) (eqz-other (pos (suc n)) (pos 0) (λ e. absurd (let y : suc n ≡ 0 = ap natAbs e in omega arith))))
-length-clauses (negsuc n ∷ es) = length-leading (negsuc n) (clauses es) ∙ length-clauses es
 
 -- the starts as they are found are those of the formula
 pub found-formula : {vars n : ℕ} {es : List ℤ} {before after : List ℕ} → Formula vars es (startsOf es) → StartsFound es before n after

@@ -8,7 +8,6 @@
 --   callClauses-formula, callClauses-constraint     a call on the formula alone, and one with the constraint
 --   clauses-up-to, nil-up-to, clauseAt-up-to     a clause's literals are of the variables 1 to n
 --   length-starts                 one start more than clauses
---   clauses-le                    no more clauses than entries
 --
 -- Assumes nothing.
 use mathlib.Core.Path.{_≡_, refl, sym, _∙_, ap}
@@ -22,10 +21,11 @@ use lib.Seq.{take-all, take-append-seam, getD-take, getD-append-seam, length-tak
 use Rattle.rules.specs.Lists.{In}
 use Rattle.rules.specs.Meaning.{Clause, varOf, leading, clauses}
 use Rattle.rules.proofs.ListLaws.{in-getD}
+use Rattle.rules.proofs.ClauseLaws.{clauses-entries}
 use Rattle.formula.specs.Clauses.{ClauseUpTo}
 use Rattle.formula.specs.Starts.{startsOf, clausesWith, clauseAt, callClauses}
 use Rattle.formula.specs.Formula.{Formula}
-use Rattle.formula.proofs.StartsLaws.{length-leading, length-startsOf, Part, part}
+use Rattle.formula.proofs.StartsLaws.{length-startsOf, Part, part}
 
 -- ---- the clause between two starts
 
@@ -77,30 +77,6 @@ callClauses-constraint es con =
 
 -- ---- the variables of its literals
 
--- a clause of the entry list has entries for its literals, and no zero
-record Entries (es : List ℤ) (cl : Clause) : Type 0 where
-  each : (l : ℤ) → In l cl → In l es × (1 ≤ varOf l)
-
-entries-behind : {es : List ℤ} {cl : Clause} (k : ℤ) → Entries es cl → Entries (k ∷ es) cl
-entries-behind k e = record { each = λ l i. (List·Memᴰ·tail (e .each l i .0), e .each l i .1) }
-
-entries-leading : (k : ℤ) → 1 ≤ varOf k → (es : List ℤ) (cls : List Clause) → ((cl : Clause) → In cl cls → Entries es cl)
-    → (cl : Clause) → In cl (leading k cls) → Entries (k ∷ es) cl
-entries-leading k h es [] f cl i = absurd (List·Memᴰ·not-nil i)
-entries-leading k h es (d ∷ cls) f cl (List·Memᴰ·tail i) = entries-behind k (f cl (List·Memᴰ·tail i))
-entries-leading k h es (d ∷ cls) f cl (List·Memᴰ·head e) = rw e (record { each = own })
-  where
-    own : (l : ℤ) → In l (k ∷ d) → In l (k ∷ es) × (1 ≤ varOf l)
-    own l (List·Memᴰ·head q) = (List·Memᴰ·head q, rw q h)
-    own l (List·Memᴰ·tail j) = entries-behind k (f d (List·Memᴰ·head refl)) .each l j
-
-clauses-entries : (es : List ℤ) (cl : Clause) → In cl (clauses es) → Entries es cl
-clauses-entries [] cl i = absurd (List·Memᴰ·not-nil i)
-clauses-entries (pos zero ∷ es) cl (List·Memᴰ·head e) = record { each = λ l i. absurd (List·Memᴰ·not-nil (rw e at i)) }
-clauses-entries (pos zero ∷ es) cl (List·Memᴰ·tail i) = entries-behind (pos zero) (clauses-entries es cl i)
-clauses-entries (pos (suc n) ∷ es) cl i = entries-leading (pos (suc n)) (omega arith) es (clauses es) (clauses-entries es) cl i
-clauses-entries (negsuc n ∷ es) cl i = entries-leading (negsuc n) (omega arith) es (clauses es) (clauses-entries es) cl i
-
 -- of the formula's, if its entries are so
 pub clauses-up-to : (n : ℕ) (es : List ℤ) → ((l : ℤ) → In l es → varOf l ≤ n) → (cl : Clause) → In cl (clauses es) → ClauseUpTo n cl
 clauses-up-to n es o cl i =
@@ -125,9 +101,3 @@ clauseAt-up-to n es con k o u h =
 
 pub length-starts : {vars : ℕ} {es : List ℤ} {starts : List ℕ} → Formula vars es starts → length starts ≡ suc (length (clauses es))
 length-starts {es = es} f = ap length (f .starts-are) ∙ length-startsOf es
-
-pub clauses-le : (es : List ℤ) → length (clauses es) ≤ length es
-clauses-le [] = omega arith
-clauses-le (pos zero ∷ es) = omega (arith, clauses-le es)
-clauses-le (pos (suc n) ∷ es) = omega (arith, clauses-le es, length-leading (pos (suc n)) (clauses es))
-clauses-le (negsuc n ∷ es) = omega (arith, clauses-le es, length-leading (negsuc n) (clauses es))

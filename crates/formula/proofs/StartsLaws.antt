@@ -20,13 +20,10 @@ use lib.IntN.{ℤ, pos, negsuc}
 use lib.ListN.{getD, set, length, take, drop, length-set, take-append-drop, drop-of-length-le}
 use lib.Seq.{take-at, drop-cons, drop-drop, take-suc-set, drop-set-lt, append-snoc}
 use Rattle.rules.specs.Meaning.{Clause, leading, clauses}
+use Rattle.rules.proofs.ClauseLaws.{length-leading}
 use Rattle.formula.specs.Starts.{startsBehind, startsOf, StartsFound}
 
 -- ---- how many
-
-pub length-leading : (l : ℤ) (cls : List Clause) → length (leading l cls) ≡ length cls
-length-leading l [] = refl
-length-leading l (cl ∷ cls) = refl
 
 pub length-startsBehind : (i : ℕ) (es : List ℤ) → length (startsBehind i es) ≡ length (clauses es)
 length-startsBehind i [] = refl

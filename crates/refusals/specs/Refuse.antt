@@ -1,9 +1,9 @@
--- What a refusal in code says. Assumes nothing.
+-- What code says of a list: accepted, or why it is refused. Assumes nothing.
 use mathlib.Core.Option.{Option, none, some}
-use Rattle.rules.specs.declared.RunAnswer.{RunAnswer}
-use Rattle.refusals.specs.declared.Refusal.{Refusal}
-use Rattle.refusals.specs.declared.Refusal.the-variants.{Accepted, Refused}
+use Rattle.rules.specs.declared.Refusal.{Refusal}
+use Rattle.refusals.specs.declared.Checked.{Checked}
+use Rattle.refusals.specs.declared.Checked.the-variants.{Accepted, Refused}
 
-abbrev pub found : Option RunAnswer → Refusal
+abbrev pub found : Option Refusal → Checked
 found none = Accepted
 found (some a) = Refused a

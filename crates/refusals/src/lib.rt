@@ -1,16 +1,16 @@
-// What a run refuses, in the order 10, 1, 11, 12 (docs/RULES.md, "What comes back"), and of these 11 and 12, which are the list's own, for
-// whoever takes one. Nobody has to check a list first.
+// What is refused of an entry list, in the order 10, 1, 11, 12 (docs/RULES.md, "What comes back"). 10 and 1 are of whoever takes the list, 11 and
+// 12 the list's own. Nobody has to check one first.
 ghost use mathlib.Core.Path.{_≡_};
-ghost use Prim.Native.Nat.{ℕ};
 ghost use Rattle.rules.specs.Lists.{nthIndex, firstOf};
 ghost use Rattle.rules.specs.Reading.{isZero};
-ghost use Rattle.rules.specs.Answer.{given, isEnded, isAbove, listRules, refusalOf};
+ghost use Rattle.rules.specs.Answer.{isEnded, isAbove, listRules, takingRules, outOfLimits, tooShort};
 ghost use Rattle.refusals.specs.Refuse.{found};
+use rules::Refusal;
 
-// Why a run is refused, if it is.
-pub enum Refusal {
+// What the rules say of a list.
+pub enum Checked {
     Accepted,
-    Refused(rules::RunAnswer),
+    Refused(Refusal),
 }
 
 // Whether a list is empty or ended by 0.
@@ -62,45 +62,53 @@ fn first_above(entries: &[i32], vars: u32) -> usize
 
 // Why a list is refused, if it is: 11 and 12, whoever takes it. Every list and every V is answered.
 // Rules out: a list that is not ended accepted; 12 before a case of 11.
-pub fn refuse_list(entries: &[i32], vars: u32) -> Refusal
+fn refuse_list(entries: &[i32], vars: u32) -> Checked
     ensures { λ r. ⌜ r ≡ found (firstOf (listRules (now (entries .entry)) vars)) ⌝ }
 {
     if rules::MAX_ENTRIES < entries.len() {
-        return Refusal::Refused(rules::RunAnswer::BadList(rules::MAX_ENTRIES));
+        return Checked::Refused(Refusal::BadList(rules::MAX_ENTRIES));
     }
     if !is_ended(entries) {
-        return Refusal::Refused(rules::RunAnswer::BadList(entries.len()));
+        return Checked::Refused(Refusal::BadList(entries.len()));
     }
     let over = nth_zero(entries, rules::MAX_CLAUSES);
     if over < entries.len() {
-        return Refusal::Refused(rules::RunAnswer::BadList(over));
+        return Checked::Refused(Refusal::BadList(over));
     }
     let above = first_above(entries, vars);
     if above < entries.len() {
-        return Refusal::Refused(rules::RunAnswer::EntryOverVars(above));
+        return Checked::Refused(Refusal::EntryOverVars(above));
     }
-    Refusal::Accepted
+    Checked::Accepted
 }
 
-// Why a run is refused, if it is.
+// Why a list is refused, if it is, whoever takes it: 10 where its limits are bad, 1 where a buffer is too short, then the list's own.
 // Rules out: 11 before 1; a list of 1,025 clauses accepted.
-pub fn refuse(entries: &[i32], vars: u32, limit: u32, status: &[u8], log: &[u32]) -> Refusal
-    ensures { λ r. ⌜ ((budget : ℕ) → r ≡ found (refusalOf (given (now (entries .entry)) vars budget limit (now (status .entry)) (now (log .entry))))) ⌝ }
+pub fn refuse(bad_limits: bool, short: bool, entries: &[i32], vars: u32) -> Checked
+    ensures { λ r. ⌜ r ≡ found (firstOf (takingRules «bad_limits» short (now (entries .entry)) vars)) ⌝ }
 {
-    if rules::MAX_VARS < vars {
-        return Refusal::Refused(rules::RunAnswer::BadLimits);
+    if bad_limits {
+        return Checked::Refused(Refusal::BadLimits);
     }
-    if limit == 0 {
-        return Refusal::Refused(rules::RunAnswer::BadLimits);
-    }
-    if rules::MAX_CHUNK < limit {
-        return Refusal::Refused(rules::RunAnswer::BadLimits);
-    }
-    if status.len() < vars as usize {
-        return Refusal::Refused(rules::RunAnswer::ShortBuffer);
-    }
-    if log.len() < 6 * (vars as usize + 1) {
-        return Refusal::Refused(rules::RunAnswer::ShortBuffer);
+    if short {
+        return Checked::Refused(Refusal::ShortBuffer);
     }
     refuse_list(entries, vars)
+}
+
+// Whether a run's limits are not allowed.
+// Rules out: 257 variables allowed; a chunk limit of 0 allowed.
+pub fn out_of_limits(vars: u32, limit: u32) -> bool
+    ensures { λ r. ⌜ r ≡ outOfLimits vars limit ⌝ }
+{
+    rules::MAX_VARS < vars || (limit == 0 || rules::MAX_CHUNK < limit)
+}
+
+// Whether a buffer of a run is too short, by their lengths.
+// Rules out: buffers of just the size called short; a log that lacks one number called long enough.
+pub fn too_short(vars: u32, status: usize, hints: usize, log: usize) -> bool
+    ensures { λ r. ⌜ r ≡ tooShort vars status hints log ⌝ }
+{
+    let n = vars as usize;
+    status < n || (hints < n || log < 6 * (n + 1))
 }

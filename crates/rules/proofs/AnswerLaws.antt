@@ -21,12 +21,12 @@ use lib.IntN.{ℤ}
 use lib.Dec.{eqb, ltb}
 use lib.ListN.{length, length-append}
 use borrow.Author.Tests.{eqb-true, eqb-false, eq-eqb, ne-eqb, ltb-true, ltb-false, lt-ltb, le-ltb}
-use Rattle.rules.specs.declared.RunAnswer.{RunAnswer}
+use Rattle.rules.specs.declared.Refusal.{Refusal}
 use Rattle.rules.specs.Lists.{any, count, countIf, indexIf, nthIndex, firstOf}
 use Rattle.rules.specs.Numbers.{maxVars, maxClauses, maxEntries, maxChunk}
 use Rattle.rules.specs.Reading.{isZero}
-use Rattle.rules.specs.Answer.{Given, logLength, isEnded, isAbove, listRules, refusalOf}
-use Rattle.rules.specs.RunRefusals.{InLimits, Lent, Listed}
+use Rattle.rules.specs.Answer.{Given, logLength, isEnded, isAbove, listRules, outOfLimits, isShort, refusalOf}
+use Rattle.rules.specs.RunRefusals.{InLimits, Lent, TooShort, short-status, short-hints, short-log, Listed}
 use Rattle.rules.proofs.ListLaws.{le-or-lt, never, or-cases, or-left, or-right}
 
 -- ---- the element that passes and has n passing elements before it
@@ -120,13 +120,7 @@ isEnded-last (e ∷ f ∷ es) h =
 -- ---- the tests, one by one
 
 module _ (g : Given) where
-  abbrev pub limits-test : Bool
-  limits-test = ltb maxVars (g .vars) || (eqb (g .limit) 0 || ltb maxChunk (g .limit))
-
-  abbrev pub room-test : Bool
-  room-test = ltb (length (g .status)) (g .vars) || ltb (length (g .log)) (logLength (g .vars))
-
-  pub limits-sound : limits-test ≡ true → (maxVars < g .vars) ⊎ ((g .limit ≡ 0) ⊎ (maxChunk < g .limit))
+  pub limits-sound : outOfLimits (g .vars) (g .limit) ≡ true → (maxVars < g .vars) ⊎ ((g .limit ≡ 0) ⊎ (maxChunk < g .limit))
   limits-sound h = go (or-cases (ltb maxVars (g .vars)) (eqb (g .limit) 0 || ltb maxChunk (g .limit)) h)
     where
       rest : (eqb (g .limit) 0 ≡ true) ⊎ (ltb maxChunk (g .limit) ≡ true) → (g .limit ≡ 0) ⊎ (maxChunk < g .limit)
@@ -138,13 +132,13 @@ module _ (g : Given) where
       go (inl e) = inl (ltb-true _ _ e)
       go (inr e) = inr (rest (or-cases (eqb (g .limit) 0) (ltb maxChunk (g .limit)) e))
 
-  pub limits-complete : (maxVars < g .vars) ⊎ ((g .limit ≡ 0) ⊎ (maxChunk < g .limit)) → limits-test ≡ true
+  pub limits-complete : (maxVars < g .vars) ⊎ ((g .limit ≡ 0) ⊎ (maxChunk < g .limit)) → outOfLimits (g .vars) (g .limit) ≡ true
   limits-complete (inl h) = rw (lt-ltb maxVars (g .vars) h)
   limits-complete (inr (inl h)) = rw (eq-eqb (g .limit) 0 h) (or-true (ltb maxVars (g .vars)))
   limits-complete (inr (inr h)) =
       rw (lt-ltb maxChunk (g .limit) h, or-true (eqb (g .limit) 0)) (or-true (ltb maxVars (g .vars)))
 
-  pub limits-false : limits-test ≡ false → InLimits g
+  pub limits-false : outOfLimits (g .vars) (g .limit) ≡ false → InLimits g
   limits-false h =
       let some = eqb (g .limit) 0 in
       let over = ltb maxChunk (g .limit) in
@@ -156,34 +150,56 @@ module _ (g : Given) where
         limit-fits = ltb-false _ _ (or-right some over rest);
       }
 
-  pub limits-of : InLimits g → limits-test ≡ false
+  pub limits-of : InLimits g → outOfLimits (g .vars) (g .limit) ≡ false
   limits-of w =
       rw (le-ltb maxVars (g .vars) (w .vars-fit), ne-eqb (g .limit) 0 (omega (arith, w .limit-some)), le-ltb maxChunk (g .limit) (w .limit-fits))
 
-  pub room-sound : room-test ≡ true → (length (g .status) < g .vars) ⊎ (length (g .log) < logLength (g .vars))
-  room-sound h = go (or-cases (ltb (length (g .status)) (g .vars)) (ltb (length (g .log)) (logLength (g .vars))) h)
+  -- the tests of the buffers, one by one
+  few-statuses : Bool
+  few-statuses = ltb (length (g .status)) (g .vars)
+
+  few-hints : Bool
+  few-hints = ltb (length (g .hints)) (g .vars)
+
+  few-rows : Bool
+  few-rows = ltb (length (g .log)) (logLength (g .vars))
+
+  pub room-sound : isShort g ≡ true → TooShort g
+  unfolding few-statuses few-hints few-rows
+  room-sound h = go (or-cases few-statuses (few-hints || few-rows) h)
     where
-      go : (ltb (length (g .status)) (g .vars) ≡ true) ⊎ (ltb (length (g .log)) (logLength (g .vars)) ≡ true)
-          → (length (g .status) < g .vars) ⊎ (length (g .log) < logLength (g .vars))
-      go (inl e) = inl (ltb-true _ _ e)
-      go (inr e) = inr (ltb-true _ _ e)
+      rest : (few-hints ≡ true) ⊎ (few-rows ≡ true) → TooShort g
+      rest (inl e) = short-hints (ltb-true _ _ e)
+      rest (inr e) = short-log (ltb-true _ _ e)
 
-  pub room-complete : (length (g .status) < g .vars) ⊎ (length (g .log) < logLength (g .vars)) → room-test ≡ true
-  room-complete (inl h) = rw (lt-ltb (length (g .status)) (g .vars) h)
-  room-complete (inr h) = rw (lt-ltb (length (g .log)) (logLength (g .vars)) h) (or-true (ltb (length (g .status)) (g .vars)))
+      go : (few-statuses ≡ true) ⊎ ((few-hints || few-rows) ≡ true) → TooShort g
+      go (inl e) = short-status (ltb-true _ _ e)
+      go (inr e) = rest (or-cases few-hints few-rows e)
 
-  pub room-false : InLimits g → room-test ≡ false → Lent g
+  pub room-complete : TooShort g → isShort g ≡ true
+  room-complete (short-status h) = rw (lt-ltb (length (g .status)) (g .vars) h)
+  room-complete (short-hints h) = rw (lt-ltb (length (g .hints)) (g .vars) h) (or-true (ltb (length (g .status)) (g .vars)))
+  room-complete (short-log h) =
+      rw (lt-ltb (length (g .log)) (logLength (g .vars)) h, or-true (ltb (length (g .hints)) (g .vars))) (or-true (ltb (length (g .status)) (g .vars)))
+
+  pub room-false : InLimits g → isShort g ≡ false → Lent g
+  unfolding few-statuses few-hints few-rows
   room-false w h =
-      let short = ltb (length (g .status)) (g .vars) in
-      let short-log = ltb (length (g .log)) (logLength (g .vars)) in
+      let rest = or-right few-statuses (few-hints || few-rows) h in
       record {
         in-limits = w;
-        status-fits = ltb-false _ _ (or-left short short-log h);
-        log-fits = ltb-false _ _ (or-right short short-log h);
+        status-fits = ltb-false _ _ (or-left few-statuses (few-hints || few-rows) h);
+        hints-fit = ltb-false _ _ (or-left few-hints few-rows rest);
+        log-fits = ltb-false _ _ (or-right few-hints few-rows rest);
       }
 
-  pub room-of : Lent g → room-test ≡ false
-  room-of w = rw (le-ltb (length (g .status)) (g .vars) (w .status-fits), le-ltb (length (g .log)) (logLength (g .vars)) (w .log-fits))
+  pub room-of : Lent g → isShort g ≡ false
+  room-of w =
+      rw (
+        le-ltb (length (g .status)) (g .vars) (w .status-fits),
+        le-ltb (length (g .hints)) (g .vars) (w .hints-fit),
+        le-ltb (length (g .log)) (logLength (g .vars)) (w .log-fits),
+      )
 
   pub list-false : Lent g → ltb maxEntries (length (g .entries)) ≡ false
       → isEnded (g .entries) ≡ true → ltb maxClauses (count isZero (g .entries)) ≡ false → Listed g
@@ -196,21 +212,21 @@ module _ (g : Given) where
 -- ---- the list's rules: the first that refuses it
 
 module _ (es : List ℤ) (vars : ℕ) where
-  pub list-long-first : maxEntries < length es → firstOf (listRules es vars) ≡ some (RunAnswer.BadList maxEntries)
+  pub list-long-first : maxEntries < length es → firstOf (listRules es vars) ≡ some (Refusal.BadList maxEntries)
   list-long-first h = rw (lt-ltb maxEntries (length es) h)
 
   module _ (short : length es ≤ maxEntries) where
-    pub not-ended-first : isEnded es ≡ false → firstOf (listRules es vars) ≡ some (RunAnswer.BadList (length es))
+    pub not-ended-first : isEnded es ≡ false → firstOf (listRules es vars) ≡ some (Refusal.BadList (length es))
     not-ended-first e = rw (le-ltb maxEntries (length es) short, e)
 
     module _ (ended : isEnded es ≡ true) where
       pub zero-over-first : maxClauses < count isZero es
-          → firstOf (listRules es vars) ≡ some (RunAnswer.BadList (nthIndex isZero es maxClauses))
+          → firstOf (listRules es vars) ≡ some (Refusal.BadList (nthIndex isZero es maxClauses))
       zero-over-first h = rw (le-ltb maxEntries (length es) short, ended, lt-ltb maxClauses (count isZero es) h)
 
       module _ (few : count isZero es ≤ maxClauses) where
         pub above-first : any (isAbove vars) es ≡ true
-            → firstOf (listRules es vars) ≡ some (RunAnswer.EntryOverVars (nthIndex (isAbove vars) es 0))
+            → firstOf (listRules es vars) ≡ some (Refusal.EntryOverVars (nthIndex (isAbove vars) es 0))
         above-first e = rw (le-ltb maxEntries (length es) short, ended, le-ltb maxClauses (count isZero es) few, e)
 
         pub list-first : any (isAbove vars) es ≡ false → firstOf (listRules es vars) ≡ none

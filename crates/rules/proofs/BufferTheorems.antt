@@ -1,44 +1,58 @@
 -- What the buffers lent to a run hold afterwards, and that its contract has exactly one solution.
 --
---   runs-exists, runs-unique     one result and two buffers satisfy the contract, and no others
---   refused-writes-nothing       a refused run returns zero counts and leaves both buffers
+--   runs-exists, runs-unique     one result and one content of each buffer satisfy the contract, and no others
+--   refused-writes-nothing       a refused run returns zero counts and leaves the buffers
 --   length-rows                  six numbers a row
 --   status-written               the first V bytes are the statuses, and the rest stays
+--   hints-written                the first V numbers are the hints, and the rest stays
 --   log-written                  rows for the calls begun, zeros for rows not used, and the rest stays
---   length-statusAfter, length-logAfter     the buffers keep their lengths
+--   length-statusAfter, length-hintsAfter, length-logAfter     the buffers keep their lengths
+--   hintsAfter-le                no hint is above the number of clauses
 --
 -- Assumes nothing.
 use mathlib.Core.Path.{_≡_, refl, sym, _∙_}
-use mathlib.Core.List.{List, [], _∷_, _++_, map}
+use mathlib.Core.List.{List, [], _∷_, _++_, map, append-nil}
 use mathlib.Core.Option.{none}
 use Prim.Native.Nat.{ℕ, _+_, _-_, _*_, _≤_}
 use native.Mathlib.Omega.{arith}
-use lib.ListN.{length, take, drop, replicate, length-append, length-drop, length-replicate}
+use lib.ListN.{length, getD, take, drop, replicate, length-append, length-drop, length-replicate, drop-of-length-le}
 use lib.Seq.{take-at, drop-at}
+use Rattle.rules.specs.declared.Refusal.{Refusal}
 use Rattle.rules.specs.declared.RunAnswer.{RunAnswer}
 use Rattle.rules.specs.declared.Report.{Report}
 use Rattle.rules.specs.Lists.{joined}
+use Rattle.rules.specs.Meaning.{clauses}
 use Rattle.rules.specs.Run.{Row, run}
-use Rattle.rules.specs.Answer.{Given, logLength, refusalOf, taskOf, reportOf, statusAfter, rowNumbers, logOfRows, logAfter, Runs}
+use Rattle.rules.specs.Hints.{hintsOf}
+use Rattle.rules.specs.Answer.{Given, Buffers, buffers, logLength, refusalOf, taskOf, reportOf, statusAfter, hintsAfter, rowNumbers, logOfRows}
+use Rattle.rules.specs.Answer.{logAfter, Runs}
 use Rattle.rules.specs.RunRefusals.{Accepted, RunRefuses}
 use Rattle.rules.proofs.RunTheorems.{run-statuses}
 use Rattle.rules.proofs.CallTheorems.{run-calls}
+use Rattle.rules.proofs.HintLaws.{length-hintsOf, hintsOf-le}
 use Rattle.rules.proofs.RefusedRuns.{run-refused, run-accepted}
 
 -- ---- the contract
 
-pub runs-exists : (g : Given) → Runs g (reportOf g) (statusAfter g) (logAfter g)
-runs-exists g = record { result-is = refl; status-is = refl; log-is = refl }
+pub runs-exists : (g : Given) → Runs g (reportOf g) (buffers (statusAfter g) (hintsAfter g) (logAfter g))
+runs-exists g = record { result-is = refl; status-is = refl; hints-are = refl; log-is = refl }
 
-pub runs-unique : {g : Given} {r r′ : Report} {s s′ l l′ : List ℕ} → Runs g r s l → Runs g r′ s′ l′ → (r ≡ r′) × (s ≡ s′) × (l ≡ l′)
-runs-unique p q = (p .result-is ∙ sym (q .result-is), p .status-is ∙ sym (q .status-is), p .log-is ∙ sym (q .log-is))
+pub runs-unique : {g : Given} {r r′ : Report} {b b′ : Buffers} → Runs g r b → Runs g r′ b′ → (r ≡ r′) × (b ≡ b′)
+runs-unique p q = (
+  p .result-is ∙ sym (q .result-is),
+  same (p .status-is ∙ sym (q .status-is)) (p .hints-are ∙ sym (q .hints-are)) (p .log-is ∙ sym (q .log-is)),
+)
+  where
+    same : {s s′ h h′ l l′ : List ℕ} → s ≡ s′ → h ≡ h′ → l ≡ l′ → buffers s h l ≡ buffers s′ h′ l′
+    same e f g = cc
 
 -- ---- refused
 
-pub refused-writes-nothing : (g : Given) (a : RunAnswer) → RunRefuses g a
-    → (reportOf g ≡ record { answer = a; calls = 0; tries = 0; forced = 0; free = 0 }) × (statusAfter g ≡ g .status) × (logAfter g ≡ g .log)
-unfolding reportOf statusAfter logAfter
-refused-writes-nothing g a h = let e = run-refused g a .1 h in (rw e, rw e, rw e)
+pub refused-writes-nothing : (g : Given) (a : Refusal) → RunRefuses g a
+    → (reportOf g ≡ record { answer = RunAnswer.Refused a; calls = 0; tries = 0; forced = 0; free = 0 })
+    × (statusAfter g ≡ g .status) × (hintsAfter g ≡ g .hints) × (logAfter g ≡ g .log)
+unfolding reportOf statusAfter hintsAfter logAfter
+refused-writes-nothing g a h = let e = run-refused g a .1 h in (rw e, rw e, rw e, rw e)
 
 -- ---- accepted
 
@@ -84,6 +98,17 @@ module _ (g : Given) (w : Accepted g) where
         drop-at statuses (drop (g .vars) (g .status)) (g .vars) length-statuses,
       )
 
+  hintsAfter-is : hintsAfter g ≡ hintsOf (taskOf g) ++ drop (g .vars) (g .hints)
+  unfolding hintsAfter
+  hintsAfter-is = rw accepted
+
+  pub hints-written : (take (g .vars) (hintsAfter g) ≡ hintsOf (taskOf g)) × (drop (g .vars) (hintsAfter g) ≡ drop (g .vars) (g .hints))
+  hints-written =
+      rw hintsAfter-is (
+        take-at (hintsOf (taskOf g)) (drop (g .vars) (g .hints)) (g .vars) (length-hintsOf (taskOf g)),
+        drop-at (hintsOf (taskOf g)) (drop (g .vars) (g .hints)) (g .vars) (length-hintsOf (taskOf g)),
+      )
+
   length-log : length (logOfRows (g .vars) rows) ≡ logLength (g .vars)
   length-log =
       length-append (joined (map rowNumbers rows)) (replicate (logLength (g .vars) - 6 * length rows) 0) ∙
@@ -103,6 +128,16 @@ module _ (g : Given) (w : Accepted g) where
       rw statusAfter-is
       (length-append statuses (drop (g .vars) (g .status)) ∙
       omega (arith, length-statuses, length-drop (g .vars) (g .status), w .listed .lent .status-fits))
+
+  pub length-hintsAfter : length (hintsAfter g) ≡ length (g .hints)
+  length-hintsAfter =
+      rw hintsAfter-is
+      (length-append (hintsOf (taskOf g)) (drop (g .vars) (g .hints)) ∙
+      omega (arith, length-hintsOf (taskOf g), length-drop (g .vars) (g .hints), w .listed .lent .hints-fit))
+
+  -- where the buffer is of just the size
+  pub hintsAfter-le : length (g .hints) ≡ g .vars → (i : ℕ) → getD (hintsAfter g) i 0 ≤ length (clauses (g .entries))
+  hintsAfter-le n i = rw (hintsAfter-is, drop-of-length-le (g .hints) {i = g .vars} (omega arith), append-nil) (hintsOf-le (taskOf g) i)
 
   pub length-logAfter : length (logAfter g) ≡ length (g .log)
   length-logAfter =

@@ -16,10 +16,10 @@ use lib.Dec.{eqb}
 use lib.IntN.{ℤ, pos}
 use lib.ListN.{replicate}
 use Rattle.rules.specs.declared.ReadAnswer.{ReadAnswer}
-use Rattle.rules.specs.declared.RunAnswer.{RunAnswer}
+use Rattle.rules.specs.declared.Refusal.{Refusal}
 use Rattle.rules.specs.declared.Reading.{Reading}
 use Rattle.rules.specs.Lists.{all, eqs}
-use Rattle.rules.specs.Numbers.{readNumber, readPlace, runNumber, runPlace}
+use Rattle.rules.specs.Numbers.{readNumber, readPlace, refusalNumber, refusalPlace}
 use Rattle.rules.specs.Text.{linesOf, tokensFrom, numeral, headerOf, entryOf}
 use Rattle.rules.specs.Reading.{Judged, refused, judge, judgeTokens, judgeLines, readingOf}
 use Rattle.rules.specs.Answer.{refusalOf}
@@ -143,19 +143,20 @@ entry-order = (refl, refl, refl, refl)
 
 -- ---- runs
 
--- V, chunk limit, entries, the status bytes and log numbers that are lent; then number and place, 0 and 0 where the run begins
+-- V, chunk limit, entries, the status bytes, hints and log numbers that are lent; then number and place, 0 and 0 where the run begins
 pub record RunEdge : Type 0 where
   pub vars : ℕ
   pub limit : ℕ
   pub entries : List ℤ
   pub status : ℕ
+  pub hints : ℕ
   pub log : ℕ
   pub number : ℕ
   pub place : ℕ
 
-abbrev refusedBy : Option RunAnswer → ℕ → ℕ → Bool
+abbrev refusedBy : Option Refusal → ℕ → ℕ → Bool
 refusedBy none n p = eqb 0 n && eqb 0 p
-refusedBy (some a) n p = eqb (runNumber a) n && eqb (runPlace a) p
+refusedBy (some a) n p = eqb (refusalNumber a) n && eqb (refusalPlace a) p
 
 abbrev pub runPasses : RunEdge → Bool
 runPasses e =
@@ -166,31 +167,33 @@ runPasses e =
       budget = 100;
       limit = e .limit;
       status = replicate (e .status) 7;
+      hints = replicate (e .hints) 7;
       log = replicate (e .log) 7;
     }))
     (e .number)
     (e .place)
 
 -- the buffers
-abbrev lends : ℕ → ℕ → ℕ → ℕ → List ℤ → ℕ → ℕ → RunEdge
-lends v l s g es n p = record { vars = v; limit = l; entries = es; status = s; log = g; number = n; place = p }
+abbrev lends : ℕ → ℕ → ℕ → ℕ → ℕ → List ℤ → ℕ → ℕ → RunEdge
+lends v l s h g es n p = record { vars = v; limit = l; entries = es; status = s; hints = h; log = g; number = n; place = p }
 
 -- a list over one variable
 abbrev runs : List ℤ → ℕ → ℕ → RunEdge
-runs es n p = lends 1 2 1 12 es n p
+runs es n p = lends 1 2 1 1 12 es n p
 
 abbrev pub runEdges : List RunEdge
 runEdges =
     -- 10: 257 variables, chunk limit 0 or 257
-    lends 256 256 256 1542 [] 0 0 ∷
-    lends 257 2 257 1548 [] 10 0 ∷
-    lends 0 1 0 6 [] 0 0 ∷
-    lends 0 0 0 6 [] 10 0 ∷
-    lends 0 257 0 6 [] 10 0 ∷
-    -- 1: a status byte or a log number too few
-    lends 256 2 255 1542 [] 1 0 ∷
-    lends 256 2 256 1541 [] 1 0 ∷
-    lends 1 2 2 13 [] 0 0 ∷
+    lends 256 256 256 256 1542 [] 0 0 ∷
+    lends 257 2 257 257 1548 [] 10 0 ∷
+    lends 0 1 0 0 6 [] 0 0 ∷
+    lends 0 0 0 0 6 [] 10 0 ∷
+    lends 0 257 0 0 6 [] 10 0 ∷
+    -- 1: a status byte, a hint or a log number too few
+    lends 256 2 255 256 1542 [] 1 0 ∷
+    lends 256 2 256 255 1542 [] 1 0 ∷
+    lends 256 2 256 256 1541 [] 1 0 ∷
+    lends 1 2 2 2 13 [] 0 0 ∷
     -- 11: the 4,097th entry; no 0 at the end; the 1,025th zero
     runs (clause (replicate 4095 (pos 1))) 0 0 ∷
     runs (clause (replicate 4096 (pos 1))) 11 4096 ∷
@@ -204,13 +207,14 @@ runEdges =
     runs (unit (pos 1) ++ unit (pos 2) ++ unit (pos 3)) 12 2 ∷
     runs (clause (pos 1 ∷ neg 2 ∷ [])) 12 1 ∷
     runs (unit (neg 2147483648)) 12 0 ∷
-    lends 0 2 0 6 (unit (pos 1)) 12 0 ∷
-    lends 256 2 256 1542 (clause (pos 256 ∷ neg 256 ∷ neg 257 ∷ [])) 12 2 ∷
+    lends 0 2 0 0 6 (unit (pos 1)) 12 0 ∷
+    lends 256 2 256 256 1542 (clause (pos 256 ∷ neg 256 ∷ neg 257 ∷ [])) 12 2 ∷
     -- 10 before 1, 1 before 11, 11 before 12
-    lends 257 2 0 0 [] 10 0 ∷
-    lends 1 0 0 0 (pos 2 ∷ []) 10 0 ∷
-    lends 1 2 0 12 (pos 2 ∷ []) 1 0 ∷
-    lends 1 2 1 11 (unit (pos 2)) 1 0 ∷
+    lends 257 2 0 0 0 [] 10 0 ∷
+    lends 1 0 0 0 0 (pos 2 ∷ []) 10 0 ∷
+    lends 1 2 0 1 12 (pos 2 ∷ []) 1 0 ∷
+    lends 1 2 1 0 12 (pos 2 ∷ []) 1 0 ∷
+    lends 1 2 1 1 11 (unit (pos 2)) 1 0 ∷
     runs (pos 2 ∷ []) 11 1 ∷
     runs (unit (pos 2) ++ replicate 1024 (pos 0)) 11 1025 ∷
     -- within 11: too long, then not ended, then a zero too many

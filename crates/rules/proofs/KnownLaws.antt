@@ -92,7 +92,7 @@ otherByte-valued b (inl e) = rw e (inr refl, omega arith)
 otherByte-valued b (inr e) = rw e (inl refl, omega arith)
 
 -- a model with one variable flipped, if it still satisfies the formula, is a model
-flipped-model : (n : ℕ) (F : List Clause) (m : Values) (i : ℕ) → Model n F m → canFlip F m i ≡ true → Model n F (flipped m i)
+pub flipped-model : (n : ℕ) (F : List Clause) (m : Values) (i : ℕ) → Model n F m → canFlip F m i ≡ true → Model n F (flipped m i)
 flipped-model n F m i x h =
     record {
       len = length-set m i (otherByte (valueAt m i)) ∙ x .len;

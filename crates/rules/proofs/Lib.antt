@@ -15,6 +15,7 @@ pub mod CommentTheorems
 pub mod PlainLaws
 pub mod RefusalLaws
 pub mod ReadingTheorems
+pub mod ClauseLaws
 pub mod MeaningLaws
 pub mod StateLaws
 pub mod ClosingLaws
@@ -28,8 +29,10 @@ pub mod KnownLaws
 pub mod RunTrace
 pub mod RunNext
 pub mod LogLaws
+pub mod HintLaws
 pub mod RunTheorems
 pub mod CallTheorems
+pub mod HintTheorems
 pub mod AnswerLaws
 pub mod RefusedRuns
 pub mod BufferTheorems
@@ -40,5 +43,6 @@ pub mod TableLaws
 pub mod TableTheorems
 pub mod Starred
 pub mod AnswerCases
+pub mod HintCases
 pub mod EdgeCases
 pub mod Theorems

@@ -25,7 +25,8 @@ use Rattle.rules.specs.Closing.{stateOf, closeIn, closing}
 use Rattle.rules.specs.Search.{goOn, callOn}
 use Rattle.rules.specs.Plain.{decimal, decimalIn}
 use Rattle.rules.specs.Run.{chunkCall, chunksIn, chunks, firstCall, run}
-use Rattle.rules.specs.Answer.{logLength, refusalOf, reportOf, statusAfter}
+use Rattle.rules.specs.Hints.{hintsOf}
+use Rattle.rules.specs.Answer.{logLength, refusalOf, reportOf, statusAfter, hintsAfter}
 use Rattle.rules.specs.RunRefusals.{Accepted}
 use Rattle.rules.specs.Printed.{tableOfRun, tableGiven, tableOf, maxTable, countIfRoom, bytesIfRoom, Prints}
 use Rattle.rules.proofs.Quoted.{quoted}
@@ -50,10 +51,10 @@ abbrev pub tables : List Shown
 tables =
     -- the example
     shows "p cnf 2 2\n1 2 0 1 -2 0\n"
-    ("answer 0 calls 2 tries 3 forced 1 free 1 open 0\n" ∷ "1 forced on\n" ∷ "2 free\n" ∷ []) ∷
+    ("answer 0 calls 2 tries 3 forced 1 free 1 open 0\n" ∷ "1 forced on held by clause 1\n" ∷ "2 free\n" ∷ []) ∷
     -- forced off
     shows "p cnf 2 2\n-1 0 1 2 0\n"
-    ("answer 0 calls 3 tries 0 forced 2 free 0 open 0\n" ∷ "1 forced off\n" ∷ "2 forced on\n" ∷ []) ∷
+    ("answer 0 calls 3 tries 0 forced 2 free 0 open 0\n" ∷ "1 forced off held by clause 1\n" ∷ "2 forced on held by clause 2\n" ∷ []) ∷
     -- "After 20 only the first line is printed"
     shows "p cnf 1 2\n1 0 -1 0\n"
     ("answer 20 calls 1 tries 0 forced 0 free 0 open 1\n" ∷ []) ∷
@@ -73,12 +74,14 @@ passes s = eqs (tableOf (quoted (s .text))) (linesIn (s .table))
 
 pub shown : all passes tables ≡ true
 unfolding tableOf judge linesOf judgeLines headerOf numeral tokensFrom judgeTokens entryOf
-    stateOf closeIn closing goOn callOn chunkCall chunksIn chunks firstCall run refusalOf reportOf statusAfter decimal decimalIn
+    stateOf closeIn closing goOn callOn chunkCall chunksIn chunks firstCall run refusalOf reportOf statusAfter hintsOf hintsAfter decimal decimalIn
 shown = refl
 
 -- a stopped run: every word for a variable, and open is V less both
-pub shown-stopped : tableOfRun 5 (record { answer = RunAnswer.Stopped; calls = 4; tries = 1000000; forced = 2; free = 1 }) (2 ∷ 3 ∷ 0 ∷ 1 ∷ 0 ∷ [])
-    ≡ linesIn ("answer 21 calls 4 tries 1000000 forced 2 free 1 open 2\n" ∷ "1 forced on\n" ∷ "2 forced off\n" ∷ "3 open\n" ∷ "4 free\n" ∷ "5 open\n" ∷ [])
+pub shown-stopped : tableOfRun 5 (record { answer = RunAnswer.Stopped; calls = 4; tries = 1000000; forced = 2; free = 1 })
+    (2 ∷ 3 ∷ 0 ∷ 1 ∷ 0 ∷ []) (7 ∷ 1024 ∷ 9 ∷ 0 ∷ 0 ∷ [])
+    ≡ linesIn ("answer 21 calls 4 tries 1000000 forced 2 free 1 open 2\n" ∷ "1 forced on held by clause 7\n" ∷
+    "2 forced off held by clause 1024\n" ∷ "3 open\n" ∷ "4 free\n" ∷ "5 open\n" ∷ [])
 unfolding decimal decimalIn
 shown-stopped = refl
 
@@ -104,5 +107,6 @@ table-runs room text {s} {es} e =
     (record {
       in-limits = record { vars-fit = d .vars-fit; limit-some = omega arith; limit-fits = omega arith };
       status-fits = omega (arith, length-replicate {A = ℕ} (s .vars) 0);
+      hints-fit = omega (arith, length-replicate {A = ℕ} (s .vars) 0);
       log-fits = omega (arith, length-replicate {A = ℕ} (logLength (s .vars)) 0);
     })

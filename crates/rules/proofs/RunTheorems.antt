@@ -40,7 +40,7 @@ models-first (next-none t r o e d) = models-first r
 
 -- ---- what a progress says
 
-forcedBy-le : (l : ℤ) → 2 ≤ forcedBy (trueByte l)
+pub forcedBy-le : (l : ℤ) → 2 ≤ forcedBy (trueByte l)
 forcedBy-le (pos n) = omega arith
 forcedBy-le (negsuc n) = omega arith
 
@@ -114,13 +114,13 @@ module _ {k : Task} {first : Values} {models : List Values} {ss : List ℕ} (w :
 
 -- ---- the run
 
-indexOf-lt : {n : ℕ} (l : ℤ) → LitUpTo n l → indexOf l < n
+pub indexOf-lt : {n : ℕ} (l : ℤ) → LitUpTo n l → indexOf l < n
 indexOf-lt (pos zero) h = absurd (omega (arith, h .some))
 indexOf-lt (pos (suc n)) h = omega (arith, h .most)
 indexOf-lt (negsuc n) h = omega (arith, h .most)
 
 -- the statuses before there is a model: all open
-blank-open : (n i : ℕ) → i < n → statusAt (replicate n 0) i ≡ 0
+pub blank-open : (n i : ℕ) → i < n → statusAt (replicate n 0) i ≡ 0
 blank-open zero i h = absurd (omega arith)
 blank-open (suc n) zero h = refl
 blank-open (suc n) (suc i) h = blank-open n i (omega arith)

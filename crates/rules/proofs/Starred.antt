@@ -53,7 +53,7 @@ returns answer calls tries forced free = answer ∷ 0 ∷ calls ∷ tries ∷ fo
 abbrev pub row : ℕ → ℕ → ℕ → ℕ → ℕ → ℕ → List ℕ
 row n o k c f t = n ∷ o ∷ k ∷ c ∷ f ∷ t ∷ []
 
-abbrev given : Case → Given
+abbrev pub given : Case → Given
 given c =
     record {
       entries = c .entries;
@@ -61,6 +61,7 @@ given c =
       budget = c .budget;
       limit = c .limit;
       status = replicate (c .vars) 7;
+      hints = replicate (c .vars) 7;
       log = replicate (logLength (c .vars)) 7;
     }
 

@@ -1,4 +1,4 @@
--- No printed table is longer than maxTable, whatever the text: 63 bytes for the first line, 15 for each variable.
+-- No printed table is longer than maxTable, whatever the text: 63 bytes for the first line, 35 for each variable.
 --
 --   length-tableOf    no table is longer than maxTable
 --
@@ -6,27 +6,29 @@
 use mathlib.Core.Path.{_≡_, refl, _∙_, ap}
 use mathlib.Core.Logic.{_⊎_, inl, inr}
 use mathlib.Core.List.{List, [], _∷_, _++_}
-use Prim.Native.Nat.{ℕ, zero, suc, _+_, _-_, _*_, _≤_}
+use Prim.Native.Nat.{ℕ, zero, suc, pred, _+_, _-_, _*_, _≤_}
 use native.Mathlib.Omega.{arith}
-use lib.ListN.{length, length-append, length-replicate}
+use lib.ListN.{length, getD, length-append, length-replicate}
 use Rattle.rules.specs.declared.ReadAnswer.{ReadAnswer}
+use Rattle.rules.specs.declared.Refusal.{Refusal}
 use Rattle.rules.specs.declared.RunAnswer.{RunAnswer}
 use Rattle.rules.specs.declared.Report.{Report}
-use Rattle.rules.specs.Numbers.{maxText, maxVars, maxEntries, readNumber, readPlace, runNumber}
+use Rattle.rules.specs.Numbers.{maxText, maxVars, maxEntries, readNumber, readPlace, refusalNumber, runNumber}
 use Rattle.rules.specs.Reading.{Judged, accepted, refused, judge}
 use Rattle.rules.specs.Run.{run}
-use Rattle.rules.specs.Answer.{Given, taskOf, isFree, isForced, reportOf, statusAfter}
+use Rattle.rules.specs.Answer.{Given, taskOf, isFree, isForced, reportOf, statusAfter, hintsAfter}
 use Rattle.rules.specs.RunRefusals.{Accepted}
 use Rattle.rules.specs.Printed.{refusedLine, answerLine, statusWords, statusLines, tableBy}
 use Rattle.rules.specs.Printed.{tableBudget, tableGiven, tableOfJudged, tableOf, maxTable}
 use Rattle.rules.proofs.ListLaws.{count-le}
+use Rattle.rules.proofs.ClauseLaws.{length-clauses}
 use Rattle.rules.proofs.DecimalLaws.{decimal-most}
 use Rattle.rules.proofs.RefusalLaws.{refusal-sound}
 use Rattle.rules.proofs.PlaceLaws.{refuses-place}
 use Rattle.rules.proofs.RunTheorems.{run-answer, run-statuses}
 use Rattle.rules.proofs.CallTheorems.{run-calls, run-tries}
 use Rattle.rules.proofs.RefusedRuns.{run-accepted}
-use Rattle.rules.proofs.BufferTheorems.{length-statusAfter}
+use Rattle.rules.proofs.BufferTheorems.{length-statusAfter, hintsAfter-le}
 use Rattle.rules.proofs.PrintedLaws.{table-runs}
 
 -- ---- lines
@@ -43,14 +45,17 @@ readNumber-le (ReadAnswer.TokenOverVars at) = omega arith
 readNumber-le (ReadAnswer.ManyTokens at) = omega arith
 readNumber-le (ReadAnswer.ShortText at) = omega arith
 
+refusalNumber-le : (a : Refusal) → refusalNumber a ≤ 21
+refusalNumber-le Refusal.ShortBuffer = omega arith
+refusalNumber-le Refusal.BadLimits = omega arith
+refusalNumber-le (Refusal.BadList at) = omega arith
+refusalNumber-le (Refusal.EntryOverVars at) = omega arith
+
 runNumber-le : (a : RunAnswer) → runNumber a ≤ 21
 runNumber-le RunAnswer.Settled = omega arith
-runNumber-le RunAnswer.ShortBuffer = omega arith
-runNumber-le RunAnswer.BadLimits = omega arith
-runNumber-le (RunAnswer.BadList at) = omega arith
-runNumber-le (RunAnswer.EntryOverVars at) = omega arith
 runNumber-le RunAnswer.NoModel = omega arith
 runNumber-le RunAnswer.Stopped = omega arith
+runNumber-le (RunAnswer.Refused a) = omega (arith, refusalNumber-le a)
 
 length-refusedLine : (number place : ℕ) → number ≤ 99 → place ≤ maxText → length (refusedLine number place) ≤ 23
 length-refusedLine number place h k =
@@ -71,55 +76,62 @@ length-answerLine vars r v c t f e =
       decimal-most 3 (vars - r .forced - r .free) (omega arith) (omega arith),
     ))
 
-length-statusWords : (s : ℕ) → length (statusWords s) ≤ 11
-length-statusWords zero = omega arith
-length-statusWords (suc zero) = omega arith
-length-statusWords (suc (suc zero)) = omega arith
-length-statusWords (suc (suc (suc s))) = omega arith
+-- a clause's number has at most four digits
+module _ (hs : List ℕ) (small : (i : ℕ) → getD hs i 0 ≤ 9999) where
+  length-statusWords : (s i : ℕ) → length (statusWords s (getD hs i 0)) ≤ 31
+  length-statusWords zero i = omega arith
+  length-statusWords (suc zero) i = omega arith
+  length-statusWords (suc (suc zero)) i =
+      simp length-append (omega (arith, decimal-most 4 (getD hs i 0) (omega arith) (omega (arith, small i))))
+  length-statusWords (suc (suc (suc s))) i =
+      simp length-append (omega (arith, decimal-most 4 (getD hs i 0) (omega arith) (omega (arith, small i))))
 
-length-statusLines : (v : ℕ) (ss : List ℕ) → v + length ss ≤ 257 → length (statusLines v ss) ≤ 15 * length ss
-length-statusLines v [] h = omega arith
-length-statusLines v (s ∷ ss) h =
-    simp length-append (omega (arith, decimal-most 3 v (omega arith) (omega arith), length-statusWords s, length-statusLines (suc v) ss (omega arith)))
+  length-statusLines : (v : ℕ) (ss : List ℕ) → v + length ss ≤ 257 → length (statusLines v ss hs) ≤ 35 * length ss
+  length-statusLines v [] h = omega arith
+  length-statusLines v (s ∷ ss) h =
+      simp length-append
+      (omega (arith, decimal-most 3 v (omega arith) (omega arith), length-statusWords s (pred v), length-statusLines (suc v) ss (omega arith)))
 
 -- ---- tables
 
 -- what an accepted run of at most 256 variables and 1,000,000 tries returns
-record Bounded (vars : ℕ) (r : Report) (ss : List ℕ) : Type 0 where
+record Bounded (vars : ℕ) (r : Report) (ss hs : List ℕ) : Type 0 where
   vars-fit : vars ≤ maxVars
   calls-fit : r .calls ≤ 257
   tries-fit : r .tries ≤ tableBudget
   forced-fit : r .forced ≤ vars
   free-fit : r .free ≤ vars
   lines : length ss ≡ vars
+  small-hints : (i : ℕ) → getD hs i 0 ≤ 9999
   answer-is : (r .answer ≡ RunAnswer.Settled) ⊎ ((r .answer ≡ RunAnswer.NoModel) ⊎ (r .answer ≡ RunAnswer.Stopped))
 
-length-tableBy : {vars : ℕ} {r : Report} {ss : List ℕ} → Bounded vars r ss → length (tableBy (r .answer) vars r ss) ≤ maxTable
-length-tableBy {vars} {r} {ss} b = go (b .answer-is)
+length-tableBy : {vars : ℕ} {r : Report} {ss hs : List ℕ} → Bounded vars r ss hs → length (tableBy (r .answer) vars r ss hs) ≤ maxTable
+length-tableBy {vars} {r} {ss} {hs} b = go (b .answer-is)
   where
     first : length (answerLine vars r) ≤ 63
     first = length-answerLine vars r (b .vars-fit) (b .calls-fit) (b .tries-fit) (b .forced-fit) (b .free-fit)
 
-    all-lines : length (answerLine vars r ++ statusLines 1 ss) ≤ maxTable
+    all-lines : length (answerLine vars r ++ statusLines 1 ss hs) ≤ maxTable
     all-lines =
         omega (
           arith,
           first,
-          length-append (answerLine vars r) (statusLines 1 ss),
-          length-statusLines 1 ss (omega (arith, b .lines, b .vars-fit)),
+          length-append (answerLine vars r) (statusLines 1 ss hs),
+          length-statusLines hs (b .small-hints) 1 ss (omega (arith, b .lines, b .vars-fit)),
           b .lines,
           b .vars-fit,
         )
 
     go : (r .answer ≡ RunAnswer.Settled) ⊎ ((r .answer ≡ RunAnswer.NoModel) ⊎ (r .answer ≡ RunAnswer.Stopped))
-        → length (tableBy (r .answer) vars r ss) ≤ maxTable
-    go (inl e) = rw (ap (λ (a : RunAnswer). length (tableBy a vars r ss)) e) all-lines
-    go (inr (inl e)) = rw (ap (λ (a : RunAnswer). length (tableBy a vars r ss)) e) (omega (arith, first))
-    go (inr (inr e)) = rw (ap (λ (a : RunAnswer). length (tableBy a vars r ss)) e) all-lines
+        → length (tableBy (r .answer) vars r ss hs) ≤ maxTable
+    go (inl e) = rw (ap (λ (a : RunAnswer). length (tableBy a vars r ss hs)) e) all-lines
+    go (inr (inl e)) = rw (ap (λ (a : RunAnswer). length (tableBy a vars r ss hs)) e) (omega (arith, first))
+    go (inr (inr e)) = rw (ap (λ (a : RunAnswer). length (tableBy a vars r ss hs)) e) all-lines
 
-run-bounded : (g : Given) → Accepted g → g .budget ≤ tableBudget → length (g .status) ≡ g .vars → Bounded (g .vars) (reportOf g) (statusAfter g)
+run-bounded : (g : Given) → Accepted g → g .budget ≤ tableBudget → length (g .status) ≡ g .vars → length (g .hints) ≡ g .vars
+    → Bounded (g .vars) (reportOf g) (statusAfter g) (hintsAfter g)
 unfolding reportOf
-run-bounded g w b l =
+run-bounded g w b l n-hints =
     let limit = w .listed .lent .in-limits .limit-some in
     let vars-fit = w .listed .lent .in-limits .vars-fit in
     let (n, s) = run-statuses (taskOf g) limit in
@@ -131,6 +143,7 @@ run-bounded g w b l =
       forced-fit = omega (arith, count-le isForced (run (taskOf g) .progress .statuses), n);
       free-fit = omega (arith, count-le isFree (run (taskOf g) .progress .statuses), n);
       lines = length-statusAfter g w ∙ l;
+      small-hints = λ i. omega (arith, hintsAfter-le g w n-hints i, length-clauses (g .entries), w .listed .clauses-fit);
       answer-is = run-answer (taskOf g) limit;
     })
 
@@ -142,4 +155,5 @@ length-tableOf text = go (judge maxEntries text) refl
     go (refused a) e =
         omega (arith, length-refusedLine (readNumber a) (readPlace a) (omega (arith, readNumber-le a)) (refuses-place (refusal-sound maxEntries text e)))
     go (accepted s es) e =
-        length-tableBy (run-bounded (tableGiven s es) (table-runs maxEntries text e) (omega arith) (length-replicate {A = ℕ} (s .vars) 0))
+        length-tableBy (run-bounded (tableGiven s es) (table-runs maxEntries text e) (omega arith) (length-replicate {A = ℕ} (s .vars) 0)
+        (length-replicate {A = ℕ} (s .vars) 0))

@@ -9,12 +9,12 @@
 --   table-no-model    when it says that there is none
 --
 -- Assumes nothing.
-use mathlib.Core.Path.{_≡_, refl, sym, _∙_, ap}
+use mathlib.Core.Path.{_≡_, refl, sym, _∙_, ap, ap₂}
 use mathlib.Core.Logic.{_⊎_, inl, inr, _↔_}
 use mathlib.Core.Bool.{false, cond}
 use mathlib.Core.List.{List, [], _∷_, _++_, append-assoc, append-nil, append-cancel-left}
 use mathlib.Core.Option.{none}
-use Prim.Native.Nat.{ℕ, zero, suc, _+_, _-_, _≤_, _<_}
+use Prim.Native.Nat.{ℕ, zero, suc, pred, _+_, _-_, _≤_, _<_}
 use native.Mathlib.Omega.{arith}
 use native.Mathlib.Nat.{add-zero, add-suc, suc-add}
 use lib.Dec.{eqb}
@@ -34,8 +34,9 @@ use Rattle.rules.specs.Meaning.{clauses}
 use Rattle.rules.specs.Models.{NoModel, Forced, Free}
 use Rattle.rules.specs.Plain.{decimal}
 use Rattle.rules.specs.Run.{Task, Ended, statusAt, run}
-use Rattle.rules.specs.Answer.{refusalOf, reportOfRun, reportOf, statusAfter}
-use Rattle.rules.specs.Printed.{answerWord, callsWord, triesWord, forcedWord, freeWord, openWord, onWord, offWord}
+use Rattle.rules.specs.Hints.{hintsOf}
+use Rattle.rules.specs.Answer.{refusalOf, reportOfRun, reportOf, statusAfter, hintsAfter}
+use Rattle.rules.specs.Printed.{answerWord, callsWord, triesWord, forcedWord, freeWord, openWord, onWord, offWord, heldWord}
 use Rattle.rules.specs.Printed.{refusedLine, answerLine, statusWords, statusLines, tableBy, tableOfRun, tableGiven, tableOfJudged, tableOf}
 use Rattle.rules.specs.Tables.{lineAt, SaysAnswer, tableTask}
 use Rattle.rules.proofs.ListLaws.{any-append, or-left, or-right}
@@ -54,14 +55,15 @@ pub table-refused : (text : List ℕ) (a : ReadAnswer) → Refuses maxEntries te
 unfolding tableOf
 table-refused text a r = ap tableOfJudged (refusal-complete maxEntries text r)
 
--- the report and the statuses of a run
-abbrev tableOfEnd : ℕ → Ended → List ℕ
-tableOfEnd vars e = tableOfRun vars (reportOfRun e) (e .progress .statuses)
+-- the report, the statuses and the hints of a run
+abbrev tableOfEnd : Task → Ended → List ℕ
+tableOfEnd k e = tableOfRun (k .vars) (reportOfRun e) (e .progress .statuses) (hintsOf k)
 
 pub table-of-run : {text : List ℕ} {vars n : ℕ} {es : List ℤ} → Dimacs text vars n es
-    → tableOf text ≡ tableOfRun vars (reportOfRun (run (tableTask vars es))) (run (tableTask vars es) .progress .statuses)
-unfolding tableOf reportOf statusAfter
-table-of-run {text} {vars} {n} {es} d = ap tableOfJudged q ∙ rw ok (ap (tableOfRun vars (reportOfRun e)) whole)
+    → tableOf text ≡ tableOfRun vars (reportOfRun (run (tableTask vars es))) (run (tableTask vars es) .progress .statuses) (hintsOf (tableTask vars es))
+unfolding tableOf reportOf statusAfter hintsAfter
+table-of-run {text} {vars} {n} {es} d =
+    ap tableOfJudged q ∙ rw ok (ap₂ (tableOfRun vars (reportOfRun e)) (whole (e .progress .statuses)) (whole (hintsOf (tableTask vars es))))
   where
     s : Sizes
     s = record { vars = vars; clauses = n }
@@ -75,10 +77,10 @@ table-of-run {text} {vars} {n} {es} d = ap tableOfJudged q ∙ rw ok (ap (tableO
     ok : refusalOf (tableGiven s es) ≡ none
     ok = run-accepted (tableGiven s es) .1 (table-runs maxEntries text q)
 
-    whole : e .progress .statuses ++ drop vars (replicate vars 0) ≡ e .progress .statuses
-    whole =
-        ap (λ (xs : List ℕ). e .progress .statuses ++ xs) (drop-of-length-le (replicate vars 0) {i = vars} (omega (arith, length-replicate {A = ℕ} vars 0))) ∙
-        append-nil (e .progress .statuses)
+    whole : (front : List ℕ) → front ++ drop vars (replicate vars 0) ≡ front
+    whole front =
+        ap (λ (xs : List ℕ). front ++ xs) (drop-of-length-le (replicate vars 0) {i = vars} (omega (arith, length-replicate {A = ℕ} vars 0))) ∙
+        append-nil front
 
 -- ---- no LF inside a line
 
@@ -88,11 +90,11 @@ no-lf-append xs ys h k = any-append isLf xs ys ∙ rw (h, k)
 no-lf-decimal : (n : ℕ) → any isLf (decimal n) ≡ false
 no-lf-decimal n = any-of-all isDigit isLf (decimal n) (λ b d. ne-eqb b 10 (omega (arith, digit-above b d))) (decimal-digits n)
 
-no-lf-words : (s : ℕ) → any isLf (statusWords s) ≡ false
-no-lf-words zero = refl
-no-lf-words (suc zero) = refl
-no-lf-words (suc (suc zero)) = refl
-no-lf-words (suc (suc (suc s))) = refl
+no-lf-words : (s hint : ℕ) → any isLf (statusWords s hint) ≡ false
+no-lf-words zero hint = refl
+no-lf-words (suc zero) hint = refl
+no-lf-words (suc (suc zero)) hint = no-lf-decimal hint
+no-lf-words (suc (suc (suc s))) hint = no-lf-decimal hint
 
 -- the first line, less its LF, piece by piece
 abbrev answerPieces : ℕ → Report → List (List ℕ)
@@ -142,36 +144,42 @@ first-line vars r rest =
     ap (cut isLf) (append-assoc (joined (answerPieces vars r)) (10 ∷ []) rest) ∙
     cut-piece isLf (joined (answerPieces vars r)) 10 rest (no-lf-pieces vars r) refl
 
-lines-cons : (v s : ℕ) (ss : List ℕ) → cut isLf (statusLines v (s ∷ ss)) ≡ (decimal v ++ statusWords s) ∷ cut isLf (statusLines (suc v) ss)
-lines-cons v s ss =
-    cut-piece isLf (decimal v ++ statusWords s) 10 (statusLines (suc v) ss)
-    (no-lf-append (decimal v) (statusWords s) (no-lf-decimal v) (no-lf-words s)) refl
+module _ (hs : List ℕ) where
+  -- the words of variable v with this status
+  abbrev words : ℕ → ℕ → List ℕ
+  words v s = statusWords s (getD hs (pred v) 0)
 
--- the line of the variable at an index, where the first one is that of variable v
-status-line : (v : ℕ) (ss : List ℕ) (i : ℕ) → i < length ss
-    → getD (cut isLf (statusLines v ss)) i [] ≡ decimal (v + i) ++ statusWords (statusAt ss i)
-status-line v [] i h = absurd (omega arith)
-status-line v (s ∷ ss) zero h = ap (λ (xss : List (List ℕ)). getD xss 0 []) (lines-cons v s ss) ∙ rw add-zero
-status-line v (s ∷ ss) (suc i) h =
-    ap (λ (xss : List (List ℕ)). getD xss (suc i) []) (lines-cons v s ss) ∙ rw (add-suc, ← suc-add) (status-line (suc v) ss i (omega arith))
+  lines-cons : (v s : ℕ) (ss : List ℕ)
+      → cut isLf (statusLines v (s ∷ ss) hs) ≡ (decimal v ++ words v s) ∷ cut isLf (statusLines (suc v) ss hs)
+  lines-cons v s ss =
+      cut-piece isLf (decimal v ++ words v s) 10 (statusLines (suc v) ss hs)
+      (no-lf-append (decimal v) (words v s) (no-lf-decimal v) (no-lf-words s (getD hs (pred v) 0))) refl
+
+  -- the line of the variable at an index, where the first one is that of variable v
+  status-line : (v : ℕ) (ss : List ℕ) (i : ℕ) → i < length ss
+      → getD (cut isLf (statusLines v ss hs)) i [] ≡ decimal (v + i) ++ words (v + i) (statusAt ss i)
+  status-line v [] i h = absurd (omega arith)
+  status-line v (s ∷ ss) zero h = ap (λ (xss : List (List ℕ)). getD xss 0 []) (lines-cons v s ss) ∙ rw add-zero
+  status-line v (s ∷ ss) (suc i) h =
+      ap (λ (xss : List (List ℕ)). getD xss (suc i) []) (lines-cons v s ss) ∙
+      rw add-suc (rw suc-add at (status-line (suc v) ss i (omega arith)))
 
 -- ---- a table says the answer and the statuses
 
--- words that differ are of other statuses
+-- words that differ are of other statuses: `o` of `open`, `r` of `free`, `n` of `forced on`
 abbrev statusOf : List ℕ → ℕ
 statusOf words =
-    let n = length words + getD words 1 0 in
-    cond (eqb n 116) 0 (cond (eqb n 107) 1 (cond (eqb n 112) 2 3))
+    cond (eqb (getD words 1 0) 111) 0 (cond (eqb (getD words 2 0) 114) 1 (cond (eqb (getD words 9 0) 110) 2 3))
 
-statusOf-words : (s : ℕ) → s ≤ 3 → statusOf (statusWords s) ≡ s
-statusOf-words zero h = refl
-statusOf-words (suc zero) h = refl
-statusOf-words (suc (suc zero)) h = refl
-statusOf-words (suc (suc (suc zero))) h = refl
-statusOf-words (suc (suc (suc (suc s)))) h = absurd (omega arith)
+statusOf-words : (s hint : ℕ) → s ≤ 3 → statusOf (statusWords s hint) ≡ s
+statusOf-words zero hint h = refl
+statusOf-words (suc zero) hint h = refl
+statusOf-words (suc (suc zero)) hint h = refl
+statusOf-words (suc (suc (suc zero))) hint h = refl
+statusOf-words (suc (suc (suc (suc s)))) hint h = absurd (omega arith)
 
-words-inj : (s t : ℕ) → s ≤ 3 → t ≤ 3 → statusWords s ≡ statusWords t → s ≡ t
-words-inj s t h k e = sym (statusOf-words s h) ∙ ap statusOf e ∙ statusOf-words t k
+words-inj : (s t hint : ℕ) → s ≤ 3 → t ≤ 3 → statusWords s hint ≡ statusWords t hint → s ≡ t
+words-inj s t hint h k e = sym (statusOf-words s hint h) ∙ ap statusOf e ∙ statusOf-words t hint k
 
 -- a number that ends at a space is read off what it stands in front of
 number-front : (n : ℕ) (rest : List ℕ) → getD (cut (λ (b : ℕ). eqb b 32) (decimal n ++ 32 ∷ rest)) 0 [] ≡ decimal n
@@ -218,22 +226,25 @@ module _ (k : Task) (limit : 1 ≤ k .limit) where
   ss : List ℕ
   ss = run k .progress .statuses
 
+  abbrev hs : List ℕ
+  hs = hintsOf k
+
   table : List ℕ
-  table = tableOfEnd (k .vars) (run k)
+  table = tableOfEnd k (run k)
 
   -- where the run is not refused, the table begins with the answer line; lines of variables follow unless there is no model
-  by-answer : (a : RunAnswer) → run k .answer ≡ a → table ≡ tableBy a (k .vars) (reportOfRun (run k)) ss
+  by-answer : (a : RunAnswer) → run k .answer ≡ a → table ≡ tableBy a (k .vars) (reportOfRun (run k)) ss hs
   unfolding table ss
-  by-answer a q = ap (λ (b : RunAnswer). tableBy b (k .vars) (reportOfRun (run k)) (run k .progress .statuses)) q
+  by-answer a q = ap (λ (b : RunAnswer). tableBy b (k .vars) (reportOfRun (run k)) (run k .progress .statuses) (hintsOf k)) q
 
   begins : (rest : List ℕ) × (table ≡ answerLine (k .vars) (reportOfRun (run k)) ++ rest)
   begins = go (run-answer k limit)
     where
       go : (run k .answer ≡ RunAnswer.Settled) ⊎ ((run k .answer ≡ RunAnswer.NoModel) ⊎ (run k .answer ≡ RunAnswer.Stopped))
           → (rest : List ℕ) × (table ≡ answerLine (k .vars) (reportOfRun (run k)) ++ rest)
-      go (inl q) = (statusLines 1 ss, by-answer RunAnswer.Settled q)
+      go (inl q) = (statusLines 1 ss hs, by-answer RunAnswer.Settled q)
       go (inr (inl q)) = ([], by-answer RunAnswer.NoModel q ∙ sym (append-nil (answerLine (k .vars) (reportOfRun (run k)))))
-      go (inr (inr q)) = (statusLines 1 ss, by-answer RunAnswer.Stopped q)
+      go (inr (inr q)) = (statusLines 1 ss hs, by-answer RunAnswer.Stopped q)
 
   says : (n : ℕ) → SaysAnswer n table ↔ (runNumber (run k .answer) ≡ n)
   says n = let (rest, q) = begins in rw q (answered (k .vars) (reportOfRun (run k)) rest n)
@@ -262,19 +273,19 @@ module _ (k : Task) (limit : 1 ≤ k .limit) where
 
   -- the words of a variable's line say its status
   line : SaysAnswer 0 table → (i : ℕ) → i < k .vars → (s : ℕ) → s ≤ 3
-      → (lineAt table (suc i) ≡ decimal (suc i) ++ statusWords s) ↔ (statusAt ss i ≡ s)
+      → (lineAt table (suc i) ≡ decimal (suc i) ++ statusWords s (getD hs i 0)) ↔ (statusAt ss i ≡ s)
   unfolding ss
   line w i h s small = (
-    λ q. words-inj (statusAt ss i) s (run-statuses k limit .1 i) small (append-cancel-left (decimal (suc i)) _ _ (sym is ∙ q)),
+    λ q. words-inj (statusAt ss i) s (getD hs i 0) (run-statuses k limit .1 i) small (append-cancel-left (decimal (suc i)) _ _ (sym is ∙ q)),
     λ q. is ∙
-        ap (λ (t : ℕ). decimal (suc i) ++ statusWords t) q,
+        ap (λ (t : ℕ). decimal (suc i) ++ statusWords t (getD hs i 0)) q,
   )
     where
-      is : lineAt table (suc i) ≡ decimal (suc i) ++ statusWords (statusAt ss i)
+      is : lineAt table (suc i) ≡ decimal (suc i) ++ statusWords (statusAt ss i) (getD hs i 0)
       is =
           ap (λ (t : List ℕ). lineAt t (suc i)) (by-answer RunAnswer.Settled (says-settled .0 w)) ∙
-          ap (λ (xss : List (List ℕ)). getD xss (suc i) []) (first-line (k .vars) (reportOfRun (run k)) (statusLines 1 ss)) ∙
-          status-line 1 ss i (rw (run-statuses k limit .0) h) ∙ ap (λ (v : ℕ). decimal v ++ statusWords (statusAt ss i)) (omega arith)
+          ap (λ (xss : List (List ℕ)). getD xss (suc i) []) (first-line (k .vars) (reportOfRun (run k)) (statusLines 1 ss hs)) ∙
+          status-line hs 1 ss i (rw (run-statuses k limit .0) h) ∙ ap (λ (v : ℕ). decimal v ++ words hs v (statusAt ss i)) (omega arith)
 
 -- ---- what it says of models, for every text of the grammar
 
@@ -290,16 +301,16 @@ module _ {text : List ℕ} {vars n : ℕ} {es : List ℤ} (d : Dimacs text vars 
   table-is = table-of-run d
 
   line-of : SaysAnswer 0 (tableOf text) → (i : ℕ) → i < vars → (s : ℕ) → s ≤ 3
-      → (lineAt (tableOf text) (suc i) ≡ decimal (suc i) ++ statusWords s) ↔ (statusAt (run k .progress .statuses) i ≡ s)
+      → (lineAt (tableOf text) (suc i) ≡ decimal (suc i) ++ statusWords s (getD (hintsOf k) i 0)) ↔ (statusAt (run k .progress .statuses) i ≡ s)
   unfolding ss
   line-of w i h s small = rw table-is (line k some-limit (rw table-is at w) i h s small)
 
   settled : SaysAnswer 0 (tableOf text) → run k .answer ≡ RunAnswer.Settled
   settled w = says-settled k some-limit .0 (rw table-is at w)
 
-  -- the line of a variable says `forced on` exactly if a model exists and all models make it true
+  -- the line of a variable says `forced on`, and which clause holds it, exactly if a model exists and all models make it true
   pub table-forced-on : SaysAnswer 0 (tableOf text) → (i : ℕ) → i < vars
-      → (lineAt (tableOf text) (suc i) ≡ decimal (suc i) ++ (forcedWord ++ onWord)) ↔ Forced vars (clauses es) (pos (suc i))
+      → (lineAt (tableOf text) (suc i) ≡ decimal (suc i) ++ (forcedWord ++ onWord ++ heldWord ++ decimal (getD (hintsOf k) i 0))) ↔ Forced vars (clauses es) (pos (suc i))
   table-forced-on w i h =
       let says = line-of w i h 2 (omega arith) in
       let means = settled-forced k some-limit (settled w) (pos (suc i)) (record { some = omega arith; most = omega arith }) in
@@ -307,7 +318,7 @@ module _ {text : List ℕ} {vars n : ℕ} {es : List ℤ} (d : Dimacs text vars 
 
   -- `forced off` exactly if a model exists and all models make it false
   pub table-forced-off : SaysAnswer 0 (tableOf text) → (i : ℕ) → i < vars
-      → (lineAt (tableOf text) (suc i) ≡ decimal (suc i) ++ (forcedWord ++ offWord)) ↔ Forced vars (clauses es) (negsuc i)
+      → (lineAt (tableOf text) (suc i) ≡ decimal (suc i) ++ (forcedWord ++ offWord ++ heldWord ++ decimal (getD (hintsOf k) i 0))) ↔ Forced vars (clauses es) (negsuc i)
   table-forced-off w i h =
       let says = line-of w i h 3 (omega arith) in
       let means = settled-forced k some-limit (settled w) (negsuc i) (record { some = omega arith; most = omega arith }) in

@@ -7,9 +7,10 @@ use mathlib.Core.List.{List, [], _∷_, _++_}
 use mathlib.Core.Option.{none, some}
 use Prim.Native.Nat.{ℕ, suc, _+_, _-_, _≤_, _<_}
 use lib.IntN.{ℤ, pos, negsuc}
-use lib.ListN.{length, take, drop, replicate}
+use lib.ListN.{length, getD, take, drop, replicate}
 use Rattle.rules.specs.declared.ReadAnswer.{ReadAnswer}
 use Rattle.rules.specs.declared.Reading.{Reading}
+use Rattle.rules.specs.declared.Refusal.{Refusal}
 use Rattle.rules.specs.declared.RunAnswer.{RunAnswer}
 use Rattle.rules.specs.declared.Report.{Report}
 use Rattle.rules.specs.declared.ClauseState.the-variants.{False}
@@ -20,18 +21,21 @@ use Rattle.rules.specs.Reading.{readingOf, filled, entriesAfter, Reads}
 use Rattle.rules.specs.Grammar.{NoLf, TokenEnd, WithHeader, Dimacs}
 use Rattle.rules.specs.Refusals.{Refuses}
 use Rattle.rules.specs.Plain.{decimal, plain, entriesOf, Within}
-use Rattle.rules.specs.Meaning.{Clause, Values, clauses, LitUpTo, Proper}
+use Rattle.rules.specs.Meaning.{Clause, Values, indexOf, clauses, satisfies, LitUpTo, Proper}
 use Rattle.rules.specs.Closing.{stateOf, under-way, round, again, closing, clash, closed}
 use Rattle.rules.specs.Visits.{Visits, Quiet}
 use Rattle.rules.specs.Search.{model, no-model, triesOf, onClosed, callOn}
 use Rattle.rules.specs.Units.{forcedClauses}
 use Rattle.rules.specs.Models.{Covers, LeastModel, NoModelFrom, NoModel, Forced, Free, WitnessOf}
-use Rattle.rules.specs.Run.{Task, Progress, statusAt, isForcedTo, opens, chunkOf, constraint, chunkCall, blank, onOpen, chunks, Ended, run}
+use Rattle.rules.specs.Run.{Task, Progress, statusAt, isForcedTo, opens, flipped, chunkOf, constraint, chunkCall, blank, onOpen, chunks, Ended}
+use Rattle.rules.specs.Run.{firstCall, run}
 use Rattle.rules.specs.Trace.{Takes, Reached, Ends, Leaves, withLimits}
-use Rattle.rules.specs.Answer.{Given, logLength, refusalOf, taskOf, reportOfRun, reportOf, statusAfter, logOfRows, logAfter, isFree, isForced, Runs}
+use Rattle.rules.specs.Hints.{hintsOf, HeldBy, FirstFalse}
+use Rattle.rules.specs.Answer.{Given, Buffers, logLength, refusalOf, taskOf, reportOfRun, reportOf, statusAfter, hintsAfter, logOfRows, logAfter}
+use Rattle.rules.specs.Answer.{isFree, isForced, Runs}
 use Rattle.rules.specs.RunRefusals.{Accepted, RunRefuses}
 use Rattle.rules.specs.Log.{LogOf}
-use Rattle.rules.specs.Printed.{forcedWord, freeWord, onWord, offWord, refusedLine, tableOfRun, tableOf, maxTable, Prints}
+use Rattle.rules.specs.Printed.{forcedWord, freeWord, onWord, offWord, heldWord, refusedLine, tableOfRun, tableOf, maxTable, Prints}
 use Rattle.rules.specs.Tables.{lineAt, SaysAnswer, tableTask}
 use Rattle.rules.proofs.ClosingLaws as closing-laws
 use Rattle.rules.proofs.ClosingOrder as closing-order
@@ -52,6 +56,8 @@ use Rattle.rules.proofs.TableTheorems as tables
 use Rattle.rules.proofs.Starred as run-cases
 use Rattle.rules.proofs.AnswerCases as more-cases
 use Rattle.rules.proofs.EdgeCases as edges
+use Rattle.rules.proofs.HintTheorems as hints
+use Rattle.rules.proofs.HintCases as held-cases
 
 -- ---- the reader
 
@@ -163,7 +169,7 @@ call-as-page = run-next.chunkCall-units
 -- ---- the run's refusals and buffers
 
 -- Each refusal number and place is given exactly when its rule says so.
-pub run-refusals : (g : Given) (a : RunAnswer) → (refusalOf g ≡ some a) ↔ RunRefuses g a
+pub run-refusals : (g : Given) (a : Refusal) → (refusalOf g ≡ some a) ↔ RunRefuses g a
 run-refusals = refused-runs.run-refused
 
 -- A run is accepted exactly if no rule refuses it.
@@ -171,8 +177,9 @@ pub run-acceptance : (g : Given) → (refusalOf g ≡ none) ↔ Accepted g
 run-acceptance = refused-runs.run-accepted
 
 -- A refused run returns zero counts and writes nothing.
-pub run-refused-nothing : (g : Given) (a : RunAnswer) → RunRefuses g a
-    → (reportOf g ≡ record { answer = a; calls = 0; tries = 0; forced = 0; free = 0 }) × (statusAfter g ≡ g .status) × (logAfter g ≡ g .log)
+pub run-refused-nothing : (g : Given) (a : Refusal) → RunRefuses g a
+    → (reportOf g ≡ record { answer = RunAnswer.Refused a; calls = 0; tries = 0; forced = 0; free = 0 })
+    × (statusAfter g ≡ g .status) × (hintsAfter g ≡ g .hints) × (logAfter g ≡ g .log)
 run-refused-nothing = buffers.refused-writes-nothing
 
 -- An accepted run writes the statuses into the first V bytes, and leaves the rest.
@@ -180,6 +187,12 @@ pub run-status : (g : Given) → Accepted g
     → (take (g .vars) (statusAfter g) ≡ run (taskOf g) .progress .statuses)
     × (drop (g .vars) (statusAfter g) ≡ drop (g .vars) (g .status))
 run-status = buffers.status-written
+
+-- It writes the hints into the first V numbers, and leaves the rest.
+pub run-hints : (g : Given) → Accepted g
+    → (take (g .vars) (hintsAfter g) ≡ hintsOf (taskOf g))
+    × (drop (g .vars) (hintsAfter g) ≡ drop (g .vars) (g .hints))
+run-hints = buffers.hints-written
 
 -- It writes its rows and zeros for rows not used into the first 6(V + 1) numbers, and leaves the rest.
 pub run-log-buffer : (g : Given) → Accepted g
@@ -278,16 +291,19 @@ table-refused = tables.table-refused
 module _ {text : List ℕ} {vars n : ℕ} {es : List ℤ} (d : Dimacs text vars n es) where
   -- The table of a text is that of the run on its entries, with budget 1,000,000 and chunk limit 16.
   pub table-of-run : tableOf text ≡ tableOfRun vars (reportOfRun (run (tableTask vars es))) (run (tableTask vars es) .progress .statuses)
+      (hintsOf (tableTask vars es))
   table-of-run = tables.table-of-run d
 
   -- If its first line says answer 0, the line of a variable says `forced on` exactly if a model exists and all models make it true,
   pub table-forced-on : SaysAnswer 0 (tableOf text) → (i : ℕ) → i < vars
-      → (lineAt (tableOf text) (suc i) ≡ decimal (suc i) ++ (forcedWord ++ onWord)) ↔ Forced vars (clauses es) (pos (suc i))
+      → (lineAt (tableOf text) (suc i) ≡ decimal (suc i) ++ (forcedWord ++ onWord ++ heldWord ++ decimal (getD (hintsOf (tableTask vars es)) i 0)))
+      ↔ Forced vars (clauses es) (pos (suc i))
   table-forced-on = tables.table-forced-on d
 
   -- `forced off` exactly if a model exists and all models make it false,
   pub table-forced-off : SaysAnswer 0 (tableOf text) → (i : ℕ) → i < vars
-      → (lineAt (tableOf text) (suc i) ≡ decimal (suc i) ++ (forcedWord ++ offWord)) ↔ Forced vars (clauses es) (negsuc i)
+      → (lineAt (tableOf text) (suc i) ≡ decimal (suc i) ++ (forcedWord ++ offWord ++ heldWord ++ decimal (getD (hintsOf (tableTask vars es)) i 0)))
+      ↔ Forced vars (clauses es) (negsuc i)
   table-forced-off = tables.table-forced-off d
 
   -- and `free` exactly if two models differ on it.
@@ -299,6 +315,29 @@ module _ {text : List ℕ} {vars n : ℕ} {es : List ℤ} (d : Dimacs text vars 
   pub table-no-model : (SaysAnswer 21 (tableOf text) → ⊥) → SaysAnswer 20 (tableOf text) ↔ NoModel vars (clauses es)
   table-no-model = tables.table-no-model d
 
+-- ---- which clause holds a switch
+
+-- In the first model of a run a hint is 0 exactly if the variable, flipped alone, leaves all clauses true,
+pub hint-zero : (k : Task) (m : Values) (t : ℕ) → firstCall k ≡ model m t → (i : ℕ) → i < k .vars
+    → (getD (hintsOf k) i 0 ≡ 0) ↔ (satisfies (flipped m i) (k .formula) ≡ true)
+hint-zero = hints.hint-zero
+
+-- otherwise it is the number of the first clause that this makes false.
+pub hint-some : (k : Task) (m : Values) (t : ℕ) → firstCall k ≡ model m t → (i : ℕ) → i < k .vars
+    → (n : ℕ) → 1 ≤ n → getD (hintsOf k) i 0 ≡ n → FirstFalse (k .formula) (flipped m i) n
+hint-some = hints.hint-some
+
+-- Without a first model each hint is 0.
+pub unhinted : (k : Task) → ((m : Values) (t : ℕ) → firstCall k ≡ model m t → ⊥) → hintsOf k ≡ replicate (k .vars) 0
+unhinted = hints.unhinted
+
+-- However a run ends, a literal that it marks forced has a hint: there is a first model, and in it the literal is the only true one of the
+-- clause with that number, in however many places it stands.
+pub forced-held : (k : Task) → 1 ≤ k .limit → (es : List ℤ) → k .formula ≡ clauses es → (l : ℤ) → LitUpTo (k .vars) l
+    → isForcedTo (run k .progress .statuses) l
+    → (m : Values) × (t : ℕ) × (firstCall k ≡ model m t) × HeldBy (k .formula) m l (getD (hintsOf k) (indexOf l) 0)
+forced-held = hints.forced-held
+
 -- ---- computed cases: each is a table whose lines are compared with what the definitions give
 
 -- The small formulas that the rules mark, whole.
@@ -308,6 +347,10 @@ starred = run-cases.starred
 -- Further small formulas, each for a sentence that no marked one shows.
 pub further-cases : all run-cases.passes more-cases.further ≡ true
 further-cases = more-cases.further-cases
+
+-- The hints of small formulas.
+pub hint-cases : all held-cases.passes held-cases.hintCases ≡ true
+hint-cases = held-cases.hint-cases
 
 -- The small texts, with number and place.
 pub small-texts : all reading.passes reading.smallTexts ≡ true
@@ -331,9 +374,8 @@ pub reads-unique : {text : List ℕ} {before : List ℤ} {r r′ : Reading} {b b
     → Reads text before r b → Reads text before r′ b′ → (r ≡ r′) × (b ≡ b′)
 reads-unique = reading.reads-unique
 
--- One result and two buffers satisfy the run's contract.
-pub runs-unique : {g : Given} {r r′ : Report} {s s′ l l′ : List ℕ}
-    → Runs g r s l → Runs g r′ s′ l′ → (r ≡ r′) × (s ≡ s′) × (l ≡ l′)
+-- One result and one content of each buffer satisfy the run's contract.
+pub runs-unique : {g : Given} {r r′ : Report} {b b′ : Buffers} → Runs g r b → Runs g r′ b′ → (r ≡ r′) × (b ≡ b′)
 runs-unique = buffers.runs-unique
 
 -- One number and one buffer satisfy the printed table's contract.

@@ -1,4 +1,4 @@
--- docs/RULES.md, "What comes back", for the run: its refusals in their order, what it returns, and what the two lent buffers hold
+-- docs/RULES.md, "What comes back", for the run: its refusals in their order, what it returns, and what the lent buffers hold
 -- afterwards. Assumes nothing.
 use mathlib.Core.Path.{_≡_}
 use mathlib.Core.Bool.{Bool, true, not, _||_}
@@ -8,6 +8,7 @@ use Prim.Native.Nat.{ℕ, _+_, _-_, _*_}
 use lib.Dec.{eqb, leb, ltb}
 use lib.IntN.{ℤ}
 use lib.ListN.{length, drop, replicate}
+use Rattle.rules.specs.declared.Refusal.{Refusal}
 use Rattle.rules.specs.declared.RunAnswer.{RunAnswer}
 use Rattle.rules.specs.declared.Report.{Report}
 use Rattle.rules.specs.Lists.{any, count, joined, nthIndex, Check, check, firstOf}
@@ -15,19 +16,38 @@ use Rattle.rules.specs.Numbers.{maxVars, maxClauses, maxEntries, maxChun
 use Rattle.rules.specs.Meaning.{varOf, clauses}
 use Rattle.rules.specs.Reading.{isZero}
 use Rattle.rules.specs.Run.{Task, Row, Ended, run}
+use Rattle.rules.specs.Hints.{hintsOf}
 
--- what a run is given, and the two buffers as they are lent
+-- what a run is given, and the buffers as they are lent
 pub record Given : Type 0 where
   pub entries : List ℤ
   pub vars : ℕ
   pub budget : ℕ
   pub limit : ℕ
   pub status : List ℕ
+  pub hints : List ℕ
   pub log : List ℕ
 
-abbrev pub given : List ℤ → ℕ → ℕ → ℕ → List ℕ → List ℕ → Given
-given es vars budget limit status log =
-    record { entries = es; vars = vars; budget = budget; limit = limit; status = status; log = log }
+-- the buffers that a run is lent
+pub record Buffers : Type 0 where
+  pub status : List ℕ
+  pub hints : List ℕ
+  pub log : List ℕ
+
+abbrev pub buffers : List ℕ → List ℕ → List ℕ → Buffers
+buffers status hints log = record { status = status; hints = hints; log = log }
+
+abbrev pub given : List ℤ → ℕ → ℕ → ℕ → Buffers → Given
+given es vars budget limit lent =
+    record {
+      entries = es;
+      vars = vars;
+      budget = budget;
+      limit = limit;
+      status = lent .status;
+      hints = lent .hints;
+      log = lent .log;
+    }
 
 -- six numbers for each of V + 1 calls
 abbrev pub logLength : ℕ → ℕ
@@ -45,23 +65,31 @@ abbrev pub isAbove : ℕ → ℤ → Bool
 isAbove vars l = ltb vars (varOf l)
 
 -- 11 and 12: what a list is refused for, whoever takes it
-abbrev pub listRules : List ℤ → ℕ → List (Check RunAnswer)
+abbrev pub listRules : List ℤ → ℕ → List (Check Refusal)
 listRules es vars =
-    check (ltb maxEntries (length es)) (RunAnswer.BadList maxEntries) ∷
-    check (not (isEnded es)) (RunAnswer.BadList (length es)) ∷
-    check (ltb maxClauses (count isZero es)) (RunAnswer.BadList (nthIndex isZero es maxClauses)) ∷
-    check (any (isAbove vars) es) (RunAnswer.EntryOverVars (nthIndex (isAbove vars) es 0)) ∷
+    check (ltb maxEntries (length es)) (Refusal.BadList maxEntries) ∷
+    check (not (isEnded es)) (Refusal.BadList (length es)) ∷
+    check (ltb maxClauses (count isZero es)) (Refusal.BadList (nthIndex isZero es maxClauses)) ∷
+    check (any (isAbove vars) es) (Refusal.EntryOverVars (nthIndex (isAbove vars) es 0)) ∷
     []
 
--- 10 and 1, then the list
-abbrev pub runRules : Given → List (Check RunAnswer)
-runRules g =
-    check (ltb maxVars (g .vars) || (eqb (g .limit) 0 || ltb maxChunk (g .limit))) RunAnswer.BadLimits ∷
-    check (ltb (length (g .status)) (g .vars) || ltb (length (g .log)) (logLength (g .vars))) RunAnswer.ShortBuffer ∷
-    listRules (g .entries) (g .vars)
+-- 10 and 1, then the list: the order is the same for whoever takes one, and 10 and 1 are each one's own
+abbrev pub takingRules : Bool → Bool → List ℤ → ℕ → List (Check Refusal)
+takingRules bad short es vars = check bad Refusal.BadLimits ∷ check short Refusal.ShortBuffer ∷ listRules es vars
 
-unfoldable pub refusalOf : Given → Option RunAnswer
-refusalOf g = firstOf (runRules g)
+-- 10
+abbrev pub outOfLimits : ℕ → ℕ → Bool
+outOfLimits vars limit = ltb maxVars vars || (eqb limit 0 || ltb maxChunk limit)
+
+-- 1, by the lengths of the buffers
+abbrev pub tooShort : ℕ → ℕ → ℕ → ℕ → Bool
+tooShort vars status hints log = ltb status vars || (ltb hints vars || ltb log (logLength vars))
+
+abbrev pub isShort : Given → Bool
+isShort g = tooShort (g .vars) (length (g .status)) (length (g .hints)) (length (g .log))
+
+unfoldable pub refusalOf : Given → Option Refusal
+refusalOf g = firstOf (takingRules (outOfLimits (g .vars) (g .limit)) (isShort g) (g .entries) (g .vars))
 
 abbrev pub taskOf : Given → Task
 taskOf g = record { vars = g .vars; budget = g .budget; limit = g .limit; formula = clauses (g .entries) }
@@ -84,21 +112,28 @@ reportOfRun e =
       free = count isFree (e .progress .statuses);
     }
 
-abbrev pub reportIf : Option RunAnswer → Task → Report
+abbrev pub reportIf : Option Refusal → Task → Report
 reportIf none k = reportOfRun (run k)
-reportIf (some a) k = record { answer = a; calls = 0; tries = 0; forced = 0; free = 0 }
+reportIf (some a) k = record { answer = RunAnswer.Refused a; calls = 0; tries = 0; forced = 0; free = 0 }
 
 unfoldable pub reportOf : Given → Report
 reportOf g = reportIf (refusalOf g) (taskOf g)
 
--- ---- what the buffers hold: the first V bytes and 6(V + 1) numbers; a refused run writes nothing, and the rest stays
+-- ---- what the buffers hold: the first V bytes, V numbers and 6(V + 1) numbers; a refused run writes nothing, and the rest stays
 
-abbrev pub statusIf : Option RunAnswer → Task → List ℕ → List ℕ
+abbrev pub statusIf : Option Refusal → Task → List ℕ → List ℕ
 statusIf none k before = run k .progress .statuses ++ drop (k .vars) before
 statusIf (some a) k before = before
 
 unfoldable pub statusAfter : Given → List ℕ
 statusAfter g = statusIf (refusalOf g) (taskOf g) (g .status)
+
+abbrev pub hintsIf : Option Refusal → Task → List ℕ → List ℕ
+hintsIf none k before = hintsOf k ++ drop (k .vars) before
+hintsIf (some a) k before = before
+
+unfoldable pub hintsAfter : Given → List ℕ
+hintsAfter g = hintsIf (refusalOf g) (taskOf g) (g .hints)
 
 abbrev pub rowNumbers : Row → List ℕ
 rowNumbers r =
@@ -108,15 +143,16 @@ rowNumbers r =
 abbrev pub logOfRows : ℕ → List Row → List ℕ
 logOfRows vars rows = joined (map rowNumbers rows) ++ replicate (logLength vars - 6 * length rows) 0
 
-abbrev pub logIf : Option RunAnswer → Task → List ℕ → List ℕ
+abbrev pub logIf : Option Refusal → Task → List ℕ → List ℕ
 logIf none k before = logOfRows (k .vars) (run k .progress .rows) ++ drop (logLength (k .vars)) before
 logIf (some a) k before = before
 
 unfoldable pub logAfter : Given → List ℕ
 logAfter g = logIf (refusalOf g) (taskOf g) (g .log)
 
--- what a run promises of its result and of both buffers
-pub record Runs (g : Given) (result : Report) (status : List ℕ) (log : List ℕ) : Type 0 where
+-- what a run promises of its result and of the buffers
+pub record Runs (g : Given) (result : Report) (after : Buffers) : Type 0 where
   pub result-is : result ≡ reportOf g
-  pub status-is : status ≡ statusAfter g
-  pub log-is : log ≡ logAfter g
+  pub status-is : after .status ≡ statusAfter g
+  pub hints-are : after .hints ≡ hintsAfter g
+  pub log-is : after .log ≡ logAfter g

@@ -11,6 +11,7 @@ pub mod Visits
 pub mod Search
 pub mod Units
 pub mod Run
+pub mod Hints
 pub mod Answer
 pub mod Trace
 pub mod RunRefusals

@@ -2,6 +2,7 @@
 use Prim.Native.Nat.{ℕ}
 use Rattle.rules.specs.declared.Outcome.{Outcome}
 use Rattle.rules.specs.declared.ReadAnswer.{ReadAnswer}
+use Rattle.rules.specs.declared.Refusal.{Refusal}
 use Rattle.rules.specs.declared.RunAnswer.{RunAnswer}
 
 -- bytes of a text
@@ -52,21 +53,28 @@ readPlace (ReadAnswer.TokenOverVars at) = at
 readPlace (ReadAnswer.ManyTokens at) = at
 readPlace (ReadAnswer.ShortText at) = at
 
+-- for an entry list that is not taken
+abbrev pub refusalNumber : Refusal → ℕ
+refusalNumber Refusal.ShortBuffer = 1
+refusalNumber Refusal.BadLimits = 10
+refusalNumber (Refusal.BadList at) = 11
+refusalNumber (Refusal.EntryOverVars at) = 12
+
+abbrev pub refusalPlace : Refusal → ℕ
+refusalPlace Refusal.ShortBuffer = 0
+refusalPlace Refusal.BadLimits = 0
+refusalPlace (Refusal.BadList at) = at
+refusalPlace (Refusal.EntryOverVars at) = at
+
 -- and for a run
 abbrev pub runNumber : RunAnswer → ℕ
 runNumber RunAnswer.Settled = 0
-runNumber RunAnswer.ShortBuffer = 1
-runNumber RunAnswer.BadLimits = 10
-runNumber (RunAnswer.BadList at) = 11
-runNumber (RunAnswer.EntryOverVars at) = 12
 runNumber RunAnswer.NoModel = 20
 runNumber RunAnswer.Stopped = 21
+runNumber (RunAnswer.Refused r) = refusalNumber r
 
 abbrev pub runPlace : RunAnswer → ℕ
 runPlace RunAnswer.Settled = 0
-runPlace RunAnswer.ShortBuffer = 0
-runPlace RunAnswer.BadLimits = 0
-runPlace (RunAnswer.BadList at) = at
-runPlace (RunAnswer.EntryOverVars at) = at
 runPlace RunAnswer.NoModel = 0
 runPlace RunAnswer.Stopped = 0
+runPlace (RunAnswer.Refused r) = refusalPlace r

@@ -2,17 +2,17 @@
 use mathlib.Core.Path.{_≡_}
 use mathlib.Core.Bool.{Bool, true, false}
 use mathlib.Core.List.{List, [], _∷_, _++_}
-use Prim.Native.Nat.{ℕ, zero, suc, _-_}
+use Prim.Native.Nat.{ℕ, zero, suc, pred, _-_}
 use lib.IntN.{ℤ}
 use lib.Dec.{leb}
-use lib.ListN.{length, drop, replicate}
+use lib.ListN.{length, getD, drop, replicate}
 use Rattle.rules.specs.declared.RunAnswer.{RunAnswer}
 use Rattle.rules.specs.declared.Report.{Report}
-use Rattle.rules.specs.Numbers.{maxEntries, readNumber, readPlace, runNumber, runPlace}
+use Rattle.rules.specs.Numbers.{maxEntries, readNumber, readPlace, refusalNumber, refusalPlace, runNumber}
 use Rattle.rules.specs.Text.{Sizes}
 use Rattle.rules.specs.Reading.{Judged, accepted, refused, judge}
 use Rattle.rules.specs.Plain.{decimal}
-use Rattle.rules.specs.Answer.{Given, logLength, reportOf, statusAfter}
+use Rattle.rules.specs.Answer.{Given, logLength, reportOf, statusAfter, hintsAfter}
 
 -- ---- words, each with the blanks around it
 
@@ -48,6 +48,10 @@ onWord = 32 ∷ 111 ∷ 110 ∷ []
 abbrev pub offWord : List ℕ
 offWord = 32 ∷ 111 ∷ 102 ∷ 102 ∷ []
 
+-- " held by clause "
+abbrev pub heldWord : List ℕ
+heldWord = 32 ∷ 104 ∷ 101 ∷ 108 ∷ 100 ∷ 32 ∷ 98 ∷ 121 ∷ 32 ∷ 99 ∷ 108 ∷ 97 ∷ 117 ∷ 115 ∷ 101 ∷ 32 ∷ []
+
 -- "refused "
 abbrev pub refusedWord : List ℕ
 refusedWord = 114 ∷ 101 ∷ 102 ∷ 117 ∷ 115 ∷ 101 ∷ 100 ∷ 32 ∷ []
@@ -72,30 +76,28 @@ answerLine vars r =
     openWord ++ 32 ∷ decimal (vars - r .forced - r .free) ++
     10 ∷ []
 
-abbrev pub statusWords : ℕ → List ℕ
-statusWords zero = openWord
-statusWords (suc zero) = freeWord
-statusWords (suc (suc zero)) = forcedWord ++ onWord
-statusWords (suc (suc (suc s))) = forcedWord ++ offWord
+-- what is said of a variable by its status, and where it is forced by its hint too
+abbrev pub statusWords : ℕ → ℕ → List ℕ
+statusWords zero hint = openWord
+statusWords (suc zero) hint = freeWord
+statusWords (suc (suc zero)) hint = forcedWord ++ onWord ++ heldWord ++ decimal hint
+statusWords (suc (suc (suc s))) hint = forcedWord ++ offWord ++ heldWord ++ decimal hint
 
--- a line a variable, the first one of variable v
-abbrev pub statusLines : ℕ → List ℕ → List ℕ
-statusLines v [] = []
-statusLines v (s ∷ ss) = decimal v ++ statusWords s ++ 10 ∷ statusLines (suc v) ss
+-- a line a variable, the first one of variable v; the hint of a variable is looked up by its index
+abbrev pub statusLines : ℕ → List ℕ → List ℕ → List ℕ
+statusLines v [] hs = []
+statusLines v (s ∷ ss) hs = decimal v ++ statusWords s (getD hs (pred v) 0) ++ 10 ∷ statusLines (suc v) ss hs
 
 -- ---- the table: only the first line after 20, only the refusal if there is one
 
-abbrev pub tableBy : RunAnswer → ℕ → Report → List ℕ → List ℕ
-tableBy RunAnswer.Settled vars r ss = answerLine vars r ++ statusLines 1 ss
-tableBy RunAnswer.Stopped vars r ss = answerLine vars r ++ statusLines 1 ss
-tableBy RunAnswer.NoModel vars r ss = answerLine vars r
-tableBy RunAnswer.ShortBuffer vars r ss = refusedLine (runNumber (r .answer)) (runPlace (r .answer))
-tableBy RunAnswer.BadLimits vars r ss = refusedLine (runNumber (r .answer)) (runPlace (r .answer))
-tableBy (RunAnswer.BadList at) vars r ss = refusedLine (runNumber (r .answer)) (runPlace (r .answer))
-tableBy (RunAnswer.EntryOverVars at) vars r ss = refusedLine (runNumber (r .answer)) (runPlace (r .answer))
+abbrev pub tableBy : RunAnswer → ℕ → Report → List ℕ → List ℕ → List ℕ
+tableBy RunAnswer.Settled vars r ss hs = answerLine vars r ++ statusLines 1 ss hs
+tableBy RunAnswer.Stopped vars r ss hs = answerLine vars r ++ statusLines 1 ss hs
+tableBy RunAnswer.NoModel vars r ss hs = answerLine vars r
+tableBy (RunAnswer.Refused a) vars r ss hs = refusedLine (refusalNumber a) (refusalPlace a)
 
-abbrev pub tableOfRun : ℕ → Report → List ℕ → List ℕ
-tableOfRun vars r ss = tableBy (r .answer) vars r ss
+abbrev pub tableOfRun : ℕ → Report → List ℕ → List ℕ → List ℕ
+tableOfRun vars r ss hs = tableBy (r .answer) vars r ss hs
 
 abbrev pub tableBudget : ℕ
 tableBudget = 1000000
@@ -112,13 +114,14 @@ tableGiven s es =
       budget = tableBudget;
       limit = tableChunk;
       status = replicate (s .vars) 0;
+      hints = replicate (s .vars) 0;
       log = replicate (logLength (s .vars)) 0;
     }
 
 abbrev pub tableOfJudged : Judged → List ℕ
 tableOfJudged (refused a) = refusedLine (readNumber a) (readPlace a)
 tableOfJudged (accepted s es) =
-    tableOfRun (s .vars) (reportOf (tableGiven s es)) (statusAfter (tableGiven s es))
+    tableOfRun (s .vars) (reportOf (tableGiven s es)) (statusAfter (tableGiven s es)) (hintsAfter (tableGiven s es))
 
 unfoldable pub tableOf : List ℕ → List ℕ
 tableOf text = tableOfJudged (judge maxEntries text)
@@ -127,7 +130,7 @@ tableOf text = tableOfJudged (judge maxEntries text)
 -- where the buffer is shorter than any table may be long
 
 abbrev pub maxTable : ℕ
-maxTable = 4096
+maxTable = 9216
 
 abbrev pub countIfRoom : Bool → List ℕ → ℕ
 countIfRoom true table = length table

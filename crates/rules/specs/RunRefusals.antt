@@ -7,7 +7,7 @@ use mathlib.Core.List.{List, [], _∷_, _++_}
 use Prim.Native.Nat.{_≤_, _<_}
 use lib.IntN.{ℤ, pos}
 use lib.ListN.{length}
-use Rattle.rules.specs.declared.RunAnswer.{RunAnswer}
+use Rattle.rules.specs.declared.Refusal.{Refusal}
 use Rattle.rules.specs.Lists.{In, count}
 use Rattle.rules.specs.Numbers.{maxVars, maxClauses, maxEntries, maxChunk}
 use Rattle.rules.specs.Meaning.{varOf}
@@ -24,7 +24,13 @@ pub record InLimits (g : Given) : Type 0 where
 pub record Lent (g : Given) : Type 0 where
   pub in-limits : InLimits g
   pub status-fits : g .vars ≤ length (g .status)
+  pub hints-fit : g .vars ≤ length (g .hints)
   pub log-fits : logLength (g .vars) ≤ length (g .log)
+
+pub data TooShort (g : Given) : Type 0 where
+  short-status : length (g .status) < g .vars → TooShort g
+  short-hints : length (g .hints) < g .vars → TooShort g
+  short-log : length (g .log) < logLength (g .vars) → TooShort g
 
 -- nor 11
 pub record Listed (g : Given) : Type 0 where
@@ -38,17 +44,17 @@ pub record Accepted (g : Given) : Type 0 where
   pub listed : Listed g
   pub up-to : (l : ℤ) → In l (g .entries) → varOf l ≤ g .vars
 
-pub data RunRefuses (g : Given) : RunAnswer → Type 0 where
+pub data RunRefuses (g : Given) : Refusal → Type 0 where
   -- 10
-  bad-limits : (maxVars < g .vars) ⊎ ((g .limit ≡ 0) ⊎ (maxChunk < g .limit)) → RunRefuses g RunAnswer.BadLimits
+  bad-limits : (maxVars < g .vars) ⊎ ((g .limit ≡ 0) ⊎ (maxChunk < g .limit)) → RunRefuses g Refusal.BadLimits
   -- 1
-  short-buffer : InLimits g → (length (g .status) < g .vars) ⊎ (length (g .log) < logLength (g .vars)) → RunRefuses g RunAnswer.ShortBuffer
+  short-buffer : InLimits g → TooShort g → RunRefuses g Refusal.ShortBuffer
   -- 11: too long; not empty and not ended by 0; a zero behind 1,024 others
-  list-long : Lent g → maxEntries < length (g .entries) → RunRefuses g (RunAnswer.BadList maxEntries)
+  list-long : Lent g → maxEntries < length (g .entries) → RunRefuses g (Refusal.BadList maxEntries)
   not-ended : Lent g → length (g .entries) ≤ maxEntries → (front : List ℤ) (l : ℤ)
-      → g .entries ≡ front ++ (l ∷ []) → isZero l ≡ false → RunRefuses g (RunAnswer.BadList (length (g .entries)))
+      → g .entries ≡ front ++ (l ∷ []) → isZero l ≡ false → RunRefuses g (Refusal.BadList (length (g .entries)))
   zero-over : Lent g → length (g .entries) ≤ maxEntries → isEnded (g .entries) ≡ true → (front back : List ℤ)
-      → g .entries ≡ front ++ pos 0 ∷ back → count isZero front ≡ maxClauses → RunRefuses g (RunAnswer.BadList (length front))
+      → g .entries ≡ front ++ pos 0 ∷ back → count isZero front ≡ maxClauses → RunRefuses g (Refusal.BadList (length front))
   -- 12: the first variable above V
   entry-over-vars : Listed g → (front : List ℤ) (l : ℤ) (back : List ℤ) → g .entries ≡ front ++ l ∷ back
-      → ((k : ℤ) → In k front → varOf k ≤ g .vars) → g .vars < varOf l → RunRefuses g (RunAnswer.EntryOverVars (length front))
+      → ((k : ℤ) → In k front → varOf k ≤ g .vars) → g .vars < varOf l → RunRefuses g (Refusal.EntryOverVars (length front))

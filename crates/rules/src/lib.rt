@@ -30,7 +30,7 @@ pub const TABLE_BUDGET: u32 = 1000000;
 
 pub const TABLE_CHUNK: u32 = 16;
 
-pub const MAX_TABLE: usize = 4096;
+pub const MAX_TABLE: usize = 9216;
 
 // What a clause is under some values ("Closing").
 pub enum ClauseState {
@@ -42,6 +42,12 @@ pub enum ClauseState {
     True,
     // It has no true literal and two distinct unset ones.
     Undecided,
+}
+
+// What the flip test answers ("Run"): the variable may be flipped alone, or the first clause, in order, that this would make false.
+pub enum Flip {
+    May,
+    HeldBy(ClauseNo),
 }
 
 // What a call of the search ends with ("What comes back": 1, 2, 3).
@@ -73,15 +79,21 @@ pub struct Reading {
     pub entries: usize,
 }
 
-// The answer of a run, with its place where that is not fixed. Its number and place are runNumber and runPlace.
-pub enum RunAnswer {
-    Settled,
+// Why an entry list is not taken, whoever is given one, with the place where that is not fixed. Its number and place are refusalNumber
+// and refusalPlace.
+pub enum Refusal {
     ShortBuffer,
     BadLimits,
     BadList(usize),
     EntryOverVars(usize),
+}
+
+// The answer of a run. Its number and place are runNumber and runPlace.
+pub enum RunAnswer {
+    Settled,
     NoModel,
     Stopped,
+    Refused(Refusal),
 }
 
 // What a run returns.

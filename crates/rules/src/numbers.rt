@@ -1,6 +1,6 @@
 // The numbers and places of docs/RULES.md, "What comes back", for each answer.
 ghost use mathlib.Core.Path.{_≡_};
-ghost use Rattle.rules.specs.Numbers.{outcomeNumber, readNumber, readPlace, runNumber, runPlace};
+ghost use Rattle.rules.specs.Numbers.{outcomeNumber, readNumber, readPlace, refusalNumber, refusalPlace, runNumber, runPlace};
 
 // The log's second column.
 // Rules out: 2 for a stopped call; 0 for a model.
@@ -52,34 +52,54 @@ pub fn read_place(answer: crate::ReadAnswer) -> usize
     }
 }
 
+// The number of a refusal.
+// Rules out: 11 for a variable above V; 1 for limits that are not allowed.
+pub fn refusal_number(refusal: crate::Refusal) -> u32
+    ensures { λ r. ⌜ r ≡ refusalNumber refusal ⌝ }
+{
+    match refusal {
+        crate::Refusal::ShortBuffer => 1,
+        crate::Refusal::BadLimits => 10,
+        crate::Refusal::BadList(_) => 11,
+        crate::Refusal::EntryOverVars(_) => 12,
+    }
+}
+
+// The place of a refusal.
+// Rules out: 0 for a variable above V at index 2; 1 for a buffer that is too short.
+pub fn refusal_place(refusal: crate::Refusal) -> usize
+    ensures { λ r. ⌜ r ≡ refusalPlace refusal ⌝ }
+{
+    match refusal {
+        crate::Refusal::ShortBuffer => 0,
+        crate::Refusal::BadLimits => 0,
+        crate::Refusal::BadList(at) => at,
+        crate::Refusal::EntryOverVars(at) => at,
+    }
+}
+
 // The number of a run's answer.
-// Rules out: 20 for a stopped run; 11 for a variable above V.
+// Rules out: 20 for a stopped run; 0 for a refused one.
 pub fn run_number(answer: crate::RunAnswer) -> u32
     ensures { λ r. ⌜ r ≡ runNumber answer ⌝ }
 {
     match answer {
         crate::RunAnswer::Settled => 0,
-        crate::RunAnswer::ShortBuffer => 1,
-        crate::RunAnswer::BadLimits => 10,
-        crate::RunAnswer::BadList(_) => 11,
-        crate::RunAnswer::EntryOverVars(_) => 12,
         crate::RunAnswer::NoModel => 20,
         crate::RunAnswer::Stopped => 21,
+        crate::RunAnswer::Refused(refusal) => refusal_number(refusal),
     }
 }
 
 // The place of a run's answer.
-// Rules out: 0 for a variable above V at index 2; 1 for a settled run.
+// Rules out: 0 for a list refused at index 2; 1 for a settled run.
 pub fn run_place(answer: crate::RunAnswer) -> usize
     ensures { λ r. ⌜ r ≡ runPlace answer ⌝ }
 {
     match answer {
         crate::RunAnswer::Settled => 0,
-        crate::RunAnswer::ShortBuffer => 0,
-        crate::RunAnswer::BadLimits => 0,
-        crate::RunAnswer::BadList(at) => at,
-        crate::RunAnswer::EntryOverVars(at) => at,
         crate::RunAnswer::NoModel => 0,
         crate::RunAnswer::Stopped => 0,
+        crate::RunAnswer::Refused(refusal) => refusal_place(refusal),
     }
 }

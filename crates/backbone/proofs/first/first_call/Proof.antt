@@ -1,7 +1,8 @@
 -- `first::first_call` meets its contract: the values are cleared, and the clauses are the formula's alone. Assumes nothing.
 use native.Mathlib.Omega.{arith}
 use borrow.Author.Needs.{needs}
-use Rattle.formula.proofs.ClauseLaws.{length-starts, clauses-le}
+use Rattle.rules.proofs.ClauseLaws.{clauses-le}
+use Rattle.formula.proofs.ClauseLaws.{length-starts}
 use Rattle.calls.proofs.CallLaws.{ends-same}
 use Rattle.backbone.proofs.FirstLaws.{first-over, first-clauses}
 use Rattle.backbone.proofs.first.first_call.Statement.{statement}

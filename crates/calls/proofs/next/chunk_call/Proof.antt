@@ -11,7 +11,8 @@ use Rattle.rules.specs.Meaning.{Clause, clauses}
 use Rattle.rules.specs.Run.{isOpen, forcedValues}
 use Rattle.rules.proofs.ListLaws.{count-le}
 use Rattle.rules.proofs.StatusLaws.{length-forcedValues}
-use Rattle.formula.proofs.ClauseLaws.{length-starts, clauses-le}
+use Rattle.rules.proofs.ClauseLaws.{clauses-le}
+use Rattle.formula.proofs.ClauseLaws.{length-starts}
 use Rattle.calls.proofs.CallLaws.{constraint-up-to, chunk-over, chunk-clauses, ends-same}
 use Rattle.calls.proofs.next.chunk_call.Statement.{statement}
 use Rattle.calls.proofs.next.chunk_call.Tie as tie

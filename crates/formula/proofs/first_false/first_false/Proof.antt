@@ -10,7 +10,8 @@ use lib.ListN.{length, getD}
 use Rattle.rules.specs.Meaning.{clauses, hasTrue}
 use Rattle.formula.specs.Starts.{clauseAt}
 use Rattle.formula.specs.Formula.{firstFalseOf}
-use Rattle.formula.proofs.ClauseLaws.{clauseAt-formula, nil-up-to, clauseAt-up-to, length-starts, clauses-le}
+use Rattle.formula.proofs.ClauseLaws.{clauseAt-formula, nil-up-to, clauseAt-up-to, length-starts}
+use Rattle.rules.proofs.ClauseLaws.{clauses-le}
 use Rattle.formula.proofs.FalseLaws.{Looked, looked-start, looked-step, looked-stop, looked-done}
 use Rattle.formula.proofs.first_false.first_false.Statement.{statement}
 use Rattle.formula.proofs.first_false.first_false.Tie as tie
