@@ -6,7 +6,7 @@
  * it has both values in valid setups.
  *
  *     igb_read     the text to a list of entries
- *     igb_run      the list to a status for each switch, and a log of the run
+ *     igb_run      the list to a status for each switch, the clause that holds it, and a log of the run
  *     igb_table    the text to the printed table, as the program `table` prints it
  *
  * Every input is answered: what is wrong is refused with a number and a place, and nothing is undefined but what C itself asks for.
@@ -39,8 +39,9 @@ extern "C" {
 /* Buffers that are long enough for every formula, in elements. The first and the last are also the least that is taken. */
 #define IGB_ENTRIES_LEN 4096  /* int32_t, for igb_read */
 #define IGB_STATUS_LEN 256    /* uint8_t, for igb_run */
+#define IGB_HINTS_LEN 256     /* uint32_t, for igb_run */
 #define IGB_LOG_LEN 1542      /* uint32_t, for igb_run: a row for each variable and one more */
-#define IGB_TABLE_LEN 4096    /* uint8_t, for igb_table */
+#define IGB_TABLE_LEN 9216    /* uint8_t, for igb_table */
 
 #define IGB_STACK_BYTES 524288 /* stack that is enough for every call */
 
@@ -132,13 +133,17 @@ igb_reading igb_read(const uint8_t *text, size_t text_len, int32_t *entries, siz
  * `budget` is how many tries of a value the whole run may take; `chunk_limit` is how many candidates one call may take at most. The
  * limit changes the number of calls and tries, and never a settled status.
  *
- * A refused run writes nothing: IGB_BAD_LIMITS, IGB_SHORT_BUFFER (status_len below vars, or log_len below
+ * A refused run writes nothing: IGB_BAD_LIMITS, IGB_SHORT_BUFFER (status_len or hints_len below vars, or log_len below
  * IGB_LOG_ROW * (vars + 1)), IGB_BAD_LIST, IGB_ENTRY_OVER_VARS, in that order. Otherwise it writes the first `vars` bytes of
- * `status`, that of variable v at v - 1, and the first IGB_LOG_ROW * (vars + 1) numbers of `log`: the rows, then zeros. Longer
- * buffers keep their rest. After IGB_NO_MODEL every status is IGB_OPEN and the log has one row.
+ * `status` and the first `vars` numbers of `hints`, those of variable v at v - 1, and the first IGB_LOG_ROW * (vars + 1) numbers of
+ * `log`: the rows, then zeros. Longer buffers keep their rest. After IGB_NO_MODEL every status is IGB_OPEN and the log has one row.
+ *
+ * A hint is the number, from 1, of the first clause that the variable, flipped alone in the run's first model, makes false; 0 if it
+ * makes none false. For a forced variable it is at least 1: in that model the variable's literal is the only true one of the clause. All
+ * hints are 0 if the run has no first model: after IGB_NO_MODEL, and where the budget stopped its first call.
  */
 igb_report igb_run(const int32_t *entries, size_t entries_len, uint32_t vars, uint32_t budget, uint32_t chunk_limit,
-                   uint8_t *status, size_t status_len, uint32_t *log, size_t log_len);
+                   uint8_t *status, size_t status_len, uint32_t *hints, size_t hints_len, uint32_t *log, size_t log_len);
 
 /*
  * Puts the table of a text at the start of `out` and returns its length in bytes: lines ended by LF, with no 0 behind them. Nothing

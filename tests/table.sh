@@ -14,7 +14,7 @@ padded() {
     "$program" <"target/$1.cnf" | diff <(echo "$4") - || { echo "table: $1.cnf gets another table"; exit 1; }
 }
 # the last byte closes the clause: the program reads all of 32,768 bytes
-padded text_32768 32768 $'p cnf 1 1\n1 0' $'answer 0 calls 2 tries 0 forced 1 free 0 open 0\n1 forced on'
+padded text_32768 32768 $'p cnf 1 1\n1 0' $'answer 0 calls 2 tries 0 forced 1 free 0 open 0\n1 forced on held by clause 1'
 # one byte more, which the formula needs, and which it does not need: the program sees that there is one
 padded text_32769 32769 $'p cnf 1 1\n1 0' 'refused 2 place 32768'
 padded text_32769_lf 32769 $'p cnf 1 1\n1 0\n' 'refused 2 place 32768'

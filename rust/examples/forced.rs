@@ -1,4 +1,4 @@
-//! Which switches of a card's rules are forced: `cargo run --example forced -- ../examples/surface_ring.cnf`.
+//! Which switches of a card's rules are forced, and which rule holds each: `cargo run --example forced -- ../examples/surface_ring.cnf`.
 
 use igbezolum::{read, End, Limits};
 use std::error::Error;
@@ -8,7 +8,8 @@ fn main() -> Result<(), Box<dyn Error>> {
     let name = env::args().nth(1).ok_or("it needs the name of a file")?;
     let run = read(&fs::read(name)?)?.run(Limits::default())?;
     for (switch, on) in run.forced() {
-        println!("switch {switch} is always {}", if on { "on" } else { "off" });
+        let rule = run.held_by(switch).expect("a forced switch is held by a rule");
+        println!("switch {switch} is always {}, held by rule {rule}", if on { "on" } else { "off" });
     }
     match run.end {
         End::Settled => {}

@@ -12,6 +12,7 @@
 //! assert_eq!(run.end, End::Settled);
 //! assert_eq!(run.status, [Status::ForcedOn, Status::Free]);
 //! assert_eq!(run.forced().collect::<Vec<_>>(), [(1, true)]);
+//! assert_eq!(run.held_by(1), Some(1));
 //! # Ok::<(), igbezolum::Refusal>(())
 //! ```
 
@@ -34,7 +35,7 @@ pub const CLAUSES_MAX: usize = 1_024;
 /// Entries of a list, at most: literals and the 0 that closes each clause.
 pub const ENTRIES_MAX: usize = 4_096;
 /// Bytes of a printed table, at most.
-pub const TABLE_MAX: usize = 4_096;
+pub const TABLE_MAX: usize = 9_216;
 
 /// A formula: variables 1 to [`vars`](Formula::vars), and the clauses as a list in which a 0 closes each.
 #[derive(Clone, Debug, PartialEq, Eq)]

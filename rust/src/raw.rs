@@ -48,6 +48,8 @@ mod c {
             chunk_limit: u32,
             status: *mut u8,
             status_len: usize,
+            hints: *mut u32,
+            hints_len: usize,
             log: *mut u32,
             log_len: usize,
         ) -> Report;
@@ -64,14 +66,23 @@ pub fn read(text: &[u8], entries: &mut [i32]) -> Reading {
     unsafe { c::igb_read(text.as_ptr(), text.len(), entries.as_mut_ptr(), entries.len()) }
 }
 
-/// Runs on a list. If it is not refused, the first `vars` statuses and the first `6 * (vars + 1)` log numbers are written.
-pub fn run(entries: &[i32], vars: u32, budget: u32, chunk_limit: u32, status: &mut [u8], log: &mut [u32]) -> Report {
-    let (s, l) = (status.as_mut_ptr(), log.as_mut_ptr());
+/// Runs on a list. If it is not refused, the first `vars` statuses and hints and the first `6 * (vars + 1)` log numbers are written.
+pub fn run(
+    entries: &[i32],
+    vars: u32,
+    budget: u32,
+    chunk_limit: u32,
+    status: &mut [u8],
+    hints: &mut [u32],
+    log: &mut [u32],
+) -> Report {
+    let (s, h, l) = (status.as_mut_ptr(), hints.as_mut_ptr(), log.as_mut_ptr());
+    let (e, n) = (entries.as_ptr(), entries.len());
     // SAFETY: as said above.
-    unsafe { c::igb_run(entries.as_ptr(), entries.len(), vars, budget, chunk_limit, s, status.len(), l, log.len()) }
+    unsafe { c::igb_run(e, n, vars, budget, chunk_limit, s, status.len(), h, hints.len(), l, log.len()) }
 }
 
-/// Puts the table of a text at the start of a buffer and answers its length; 0, and nothing is written, if there is no room for 4,096
+/// Puts the table of a text at the start of a buffer and answers its length; 0, and nothing is written, if there is no room for 9,216
 /// bytes.
 pub fn table(text: &[u8], out: &mut [u8]) -> usize {
     // SAFETY: as said above.

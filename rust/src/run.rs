@@ -80,6 +80,9 @@ pub struct Run {
     pub tries: u32,
     /// The status of each variable; that of variable v is at v - 1.
     pub status: Vec<Status>,
+    /// The hint of each variable, that of variable v at v - 1: the number of the first clause that v, flipped alone in the first model,
+    /// makes false; 0 if it makes none false, or if no first model was found.
+    pub hints: Vec<u32>,
     /// One row for each call begun.
     pub log: Vec<LogRow>,
 }
@@ -92,6 +95,17 @@ impl Run {
             Status::ForcedOff => Some((v, false)),
             Status::Open | Status::Free => None,
         })
+    }
+
+    /// The clause that holds a forced variable, by its number from 1: of its literals that of the variable alone is true in the run's first
+    /// model. None for a variable that is not forced, and for numbers that are no variable's.
+    #[must_use]
+    pub fn held_by(&self, variable: u32) -> Option<u32> {
+        let i = variable.checked_sub(1)? as usize;
+        match self.status.get(i)? {
+            Status::ForcedOn | Status::ForcedOff => Some(self.hints[i]),
+            Status::Open | Status::Free => None,
+        }
     }
 
     /// The free variables in order.
@@ -124,8 +138,10 @@ fn row_of(row: &[u32]) -> LogRow {
 pub fn run(formula: &Formula, limits: Limits) -> Result<Run, Refusal> {
     // long enough for every formula that is not refused
     let mut status = [0; VARS_MAX];
+    let mut hints = [0; VARS_MAX];
     let mut log = [0; ROW * (VARS_MAX + 1)];
-    let report = raw::run(formula.entries(), formula.vars(), limits.budget, limits.chunk_limit, &mut status, &mut log);
+    let Limits { budget, chunk_limit } = limits;
+    let report = raw::run(formula.entries(), formula.vars(), budget, chunk_limit, &mut status, &mut hints, &mut log);
     if let Some(refusal) = Refusal::of(report.answer, report.place) {
         return Err(refusal);
     }
@@ -139,6 +155,7 @@ pub fn run(formula: &Formula, limits: Limits) -> Result<Run, Refusal> {
         end,
         tries: report.tries,
         status: status[..formula.vars() as usize].iter().map(|&s| status_of(s)).collect(),
+        hints: hints[..formula.vars() as usize].to_vec(),
         log: log.chunks(ROW).take(report.calls as usize).map(row_of).collect(),
     })
 }

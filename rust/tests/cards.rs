@@ -18,6 +18,12 @@ fn copy_before_release_is_forced() {
     assert_eq!(run.end, End::Settled);
     assert_eq!(run.forced().collect::<Vec<_>>(), [(1, true), (2, true), (10, false)]);
     assert_eq!(run.free().collect::<Vec<_>>(), [3, 4, 5, 6, 7, 8, 9, 11, 12]);
+    for (switch, on) in run.forced() {
+        let clause = run.held_by(switch).expect("a clause holds it") as usize - 1;
+        let literal = if on { switch as i32 } else { -(switch as i32) };
+        assert!(read(&card("surface_ring")).expect("it keeps the rules").clauses().nth(clause).expect("it is one").contains(&literal));
+    }
+    assert_eq!([run.held_by(0), run.held_by(3), run.held_by(13)], [None; 3]);
 }
 
 #[test]
@@ -50,20 +56,21 @@ fn the_table_says_the_same() {
         let first = format!("answer {number} calls {calls} tries {tries} forced {forced} free {free} open {open}");
         assert_eq!(lines.next(), Some(first.as_str()));
         let of_variables: Vec<String> = lines.map(str::to_string).collect();
-        let expected: Vec<String> = (1..).zip(&run.status).map(|(v, s)| line(v, *s)).collect();
+        let expected: Vec<String> = (1..).zip(&run.status).map(|(v, s)| line(v, *s, run.held_by(v))).collect();
         assert_eq!(of_variables, if run.end == End::NoModel { vec![] } else { expected });
     }
     assert_eq!(table(b"p cnf 1 1\n2 0"), "refused 7 place 10\n");
 }
 
-fn line(v: u32, status: Status) -> String {
+fn line(v: u32, status: Status, held_by: Option<u32>) -> String {
     let word = match status {
         Status::Open => "open",
         Status::Free => "free",
         Status::ForcedOn => "forced on",
         Status::ForcedOff => "forced off",
     };
-    format!("{v} {word}")
+    let held = held_by.map_or(String::new(), |clause| format!(" held by clause {clause}"));
+    format!("{v} {word}{held}")
 }
 
 #[test]
@@ -80,6 +87,7 @@ fn the_budget_stops_a_run() {
     let run = formula.run(Limits { budget: 2, chunk_limit: 2 }).expect("it keeps the rules");
     assert_eq!((run.end, run.tries), (End::Stopped, 2));
     assert_eq!(run.status, [Status::Free, Status::Free, Status::Open]);
+    assert_eq!(run.hints, [0, 0, 1]);
     let rows = [
         LogRow { end: CallEnd::Model, chunk: 0, compared: 0, flipped: 2, tries: 2 },
         LogRow { end: CallEnd::Stopped, chunk: 1, compared: 0, flipped: 0, tries: 0 },

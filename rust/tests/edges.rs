@@ -90,19 +90,20 @@ fn a_lent_buffer_is_too_short() {
     assert_eq!(raw::read(text, &mut entries), raw::Reading { answer: 1, place: 0, vars: 0, clauses: 0, count: 0 });
     assert!(entries.iter().all(|&e| e == 7));
 
-    let (mut status, mut log) = ([7; 1], [7; 12]);
+    let (mut status, mut hints, mut log) = ([7; 1], [7; 1], [7; 12]);
     let refused = raw::Report { answer: 1, place: 0, calls: 0, tries: 0, forced: 0, free: 0 };
-    assert_eq!(raw::run(&[1, 0], 1, 100, 1, &mut [], &mut log), refused);
-    assert_eq!(raw::run(&[1, 0], 1, 100, 1, &mut status, &mut log[..11]), refused);
-    assert_eq!((status, log), ([7; 1], [7; 12]));
+    assert_eq!(raw::run(&[1, 0], 1, 100, 1, &mut [], &mut hints, &mut log), refused);
+    assert_eq!(raw::run(&[1, 0], 1, 100, 1, &mut status, &mut [], &mut log), refused);
+    assert_eq!(raw::run(&[1, 0], 1, 100, 1, &mut status, &mut hints, &mut log[..11]), refused);
+    assert_eq!((status, hints, log), ([7; 1], [7; 1], [7; 12]));
     let forced = raw::Report { answer: 0, place: 0, calls: 2, tries: 0, forced: 1, free: 0 };
-    assert_eq!(raw::run(&[1, 0], 1, 100, 1, &mut status, &mut log), forced);
-    assert_eq!((status, log), ([2], [1, 1, 0, 0, 0, 0, 2, 2, 1, 0, 0, 0]));
+    assert_eq!(raw::run(&[1, 0], 1, 100, 1, &mut status, &mut hints, &mut log), forced);
+    assert_eq!((status, hints, log), ([2], [1], [1, 1, 0, 0, 0, 0, 2, 2, 1, 0, 0, 0]));
 
     let mut out = vec![7; TABLE_MAX];
     assert_eq!(raw::table(text, &mut out[1..]), 0);
     assert!(out.iter().all(|&b| b == 7));
     let length = raw::table(text, &mut out);
-    assert_eq!(&out[..length], b"answer 0 calls 2 tries 0 forced 1 free 0 open 0\n1 forced on\n");
+    assert_eq!(&out[..length], b"answer 0 calls 2 tries 0 forced 1 free 0 open 0\n1 forced on held by clause 1\n");
     assert!(out[length..].iter().all(|&b| b == 7));
 }

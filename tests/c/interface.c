@@ -132,49 +132,66 @@ typedef struct {
     uint32_t vars, budget, chunk_limit;
 } given;
 
-/* A run with so much room. `status` and `rows` (six numbers for each call) are what must stand in the buffers if it is not refused. */
-static void runs(const char *what, given g, size_t status_len, size_t log_len, igb_report expected, const uint8_t *status,
-                 const uint32_t *rows)
+/* How much room a run is lent. */
+typedef struct {
+    size_t status, hints, log;
+} lengths;
+
+/* What must stand in the buffers of a run that is not refused: `rows` has six numbers for each call. */
+typedef struct {
+    const uint8_t *status;
+    const uint32_t *hints, *rows;
+} filled;
+
+static void runs(const char *what, given g, lengths lens, igb_report expected, filled want)
 {
     int refused = expected.answer != IGB_OK && expected.answer != IGB_NO_MODEL && expected.answer != IGB_STOPPED;
     size_t log_bytes = refused ? 0 : IGB_LOG_ROW * (g.vars + 1) * sizeof(uint32_t);
     for (size_t k = 0; k < LEN(paints); k++) {
-        painted s = paint(status_len, paints[k]), l = paint(log_len * sizeof(uint32_t), paints[k] + 7);
+        painted s = paint(lens.status, paints[k]), l = paint(lens.log * sizeof(uint32_t), paints[k] + 7);
+        painted h = paint(lens.hints * sizeof(uint32_t), paints[k] + 3);
         int32_t *lent = copied(g.list, g.len * sizeof(int32_t));
-        igb_report got =
-            igb_run(lent, g.len, g.vars, g.budget, g.chunk_limit, s.start, status_len, (uint32_t *)(void *)l.start, log_len);
+        igb_report got = igb_run(lent, g.len, g.vars, g.budget, g.chunk_limit, s.start, lens.status, (uint32_t *)(void *)h.start, lens.hints,
+                                 (uint32_t *)(void *)l.start, lens.log);
         CHECK(memcmp(&got, &expected, sizeof got) == 0, what);
         CHECK(g.len == 0 || memcmp(lent, g.list, g.len * sizeof(int32_t)) == 0, what);
         CHECK(kept(&s, refused ? 0 : g.vars), what);
+        CHECK(kept(&h, refused ? 0 : g.vars * sizeof(uint32_t)), what);
         CHECK(kept(&l, log_bytes), what);
         if (!refused) {
             uint8_t *full = calloc(1, log_bytes);
             if (full)
-                memcpy(full, rows, expected.calls * IGB_LOG_ROW * sizeof(uint32_t));
-            CHECK(g.vars == 0 || memcmp(s.start, status, g.vars) == 0, what);
+                memcpy(full, want.rows, expected.calls * IGB_LOG_ROW * sizeof(uint32_t));
+            CHECK(g.vars == 0 || memcmp(s.start, want.status, g.vars) == 0, what);
+            CHECK(g.vars == 0 || memcmp(h.start, want.hints, g.vars * sizeof(uint32_t)) == 0, what);
             CHECK(full && memcmp(l.start, full, log_bytes) == 0, what);
             free(full);
         }
         free(lent);
         drop(&s);
+        drop(&h);
         drop(&l);
     }
 }
 
-static void refuses_run(const char *what, given g, size_t status_len, size_t log_len, uint32_t answer, uint32_t place)
+/* With `vars` statuses and hints, and so many log numbers. */
+static void refuses_run(const char *what, given g, size_t vars, size_t log_len, uint32_t answer, uint32_t place)
 {
-    runs(what, g, status_len, log_len, (igb_report){answer, place, 0, 0, 0, 0}, NULL, NULL);
+    runs(what, g, (lengths){vars, vars, log_len}, (igb_report){answer, place, 0, 0, 0, 0}, (filled){NULL, NULL, NULL});
 }
 
-/* A run with exact room, with more, and with an element too few in either buffer. */
-static void runs_list(const char *what, given g, igb_report expected, const uint8_t *status, const uint32_t *rows)
+/* A run with exact room, with more, and with an element too few in each buffer. */
+static void runs_list(const char *what, given g, igb_report expected, filled want)
 {
-    size_t log_len = IGB_LOG_ROW * (g.vars + 1);
-    runs(what, g, g.vars, log_len, expected, status, rows);
-    runs(what, g, g.vars + 5, log_len + 11, expected, status, rows);
-    if (g.vars)
-        refuses_run(what, g, g.vars - 1, log_len, IGB_SHORT_BUFFER, 0);
-    refuses_run(what, g, g.vars, log_len - 1, IGB_SHORT_BUFFER, 0);
+    size_t n = g.vars, log_len = IGB_LOG_ROW * (n + 1);
+    const igb_report refused = {IGB_SHORT_BUFFER, 0, 0, 0, 0, 0};
+    runs(what, g, (lengths){n, n, log_len}, expected, want);
+    runs(what, g, (lengths){n + 5, n + 3, log_len + 11}, expected, want);
+    if (n) {
+        runs(what, g, (lengths){n - 1, n, log_len}, refused, want);
+        runs(what, g, (lengths){n, n - 1, log_len}, refused, want);
+    }
+    runs(what, g, (lengths){n, n, log_len - 1}, refused, want);
 }
 
 /* The small formulas of the rules, whole. */
@@ -185,33 +202,35 @@ typedef struct {
     uint32_t vars, budget, chunk_limit;
     igb_report expected;
     uint8_t status[3];
+    uint32_t hints[3];
     uint32_t rows[4 * IGB_LOG_ROW];
 } small;
 
 static const small smalls[] = {
-    {"0, none", 0, {0}, 0, 100, 2, {0, 0, 1, 0, 0, 0}, {0}, {1, 1, 0, 0, 0, 0}},
-    {"0, `0`", 1, {0}, 0, 100, 2, {20, 0, 1, 0, 0, 0}, {0}, {1, 2, 0, 0, 0, 0}},
-    {"1, none", 0, {0}, 1, 100, 2, {0, 0, 1, 1, 0, 1}, {1}, {1, 1, 0, 0, 1, 1}},
-    {"1, none, budget 0", 0, {0}, 1, 0, 2, {21, 0, 1, 0, 0, 0}, {0}, {1, 3, 0, 0, 0, 0}},
-    {"`1 0`", 2, {1, 0}, 1, 100, 2, {0, 0, 2, 0, 1, 0}, {2}, {1, 1, 0, 0, 0, 0, 2, 2, 1, 0, 0, 0}},
-    {"`1 1 0`", 3, {1, 1, 0}, 1, 100, 2, {0, 0, 2, 0, 1, 0}, {2}, {1, 1, 0, 0, 0, 0, 2, 2, 1, 0, 0, 0}},
-    {"`1 -1 0`", 3, {1, -1, 0}, 1, 100, 2, {0, 0, 1, 1, 0, 1}, {1}, {1, 1, 0, 0, 1, 1}},
-    {"`1 0 -1 0`", 4, {1, 0, -1, 0}, 1, 100, 2, {20, 0, 1, 0, 0, 0}, {0}, {1, 2, 0, 0, 0, 0}},
-    {"`1 2 0 -1 -2 0`", 6, {1, 2, 0, -1, -2, 0}, 2, 100, 2, {0, 0, 2, 1, 0, 2}, {1, 1}, {1, 1, 0, 0, 0, 1, 2, 1, 1, 2, 0, 0}},
-    {"`1 2 0 1 -2 0`", 6, {1, 2, 0, 1, -2, 0}, 2, 100, 2, {0, 0, 2, 3, 1, 1}, {2, 1}, {1, 1, 0, 0, 1, 3, 2, 2, 1, 0, 0, 0}},
-    {"`1 0 2 0 3 0`", 6, {1, 0, 2, 0, 3, 0}, 3, 100, 2, {0, 0, 3, 0, 3, 0}, {2, 2, 2},
+    {"0, none", 0, {0}, 0, 100, 2, {0, 0, 1, 0, 0, 0}, {0}, {0}, {1, 1, 0, 0, 0, 0}},
+    {"0, `0`", 1, {0}, 0, 100, 2, {20, 0, 1, 0, 0, 0}, {0}, {0}, {1, 2, 0, 0, 0, 0}},
+    {"1, none", 0, {0}, 1, 100, 2, {0, 0, 1, 1, 0, 1}, {1}, {0}, {1, 1, 0, 0, 1, 1}},
+    {"1, none, budget 0", 0, {0}, 1, 0, 2, {21, 0, 1, 0, 0, 0}, {0}, {0}, {1, 3, 0, 0, 0, 0}},
+    {"`1 0`", 2, {1, 0}, 1, 100, 2, {0, 0, 2, 0, 1, 0}, {2}, {1}, {1, 1, 0, 0, 0, 0, 2, 2, 1, 0, 0, 0}},
+    {"`1 1 0`", 3, {1, 1, 0}, 1, 100, 2, {0, 0, 2, 0, 1, 0}, {2}, {1}, {1, 1, 0, 0, 0, 0, 2, 2, 1, 0, 0, 0}},
+    {"`1 -1 0`", 3, {1, -1, 0}, 1, 100, 2, {0, 0, 1, 1, 0, 1}, {1}, {0}, {1, 1, 0, 0, 1, 1}},
+    {"`1 0 -1 0`", 4, {1, 0, -1, 0}, 1, 100, 2, {20, 0, 1, 0, 0, 0}, {0}, {0}, {1, 2, 0, 0, 0, 0}},
+    {"`1 2 0 -1 -2 0`", 6, {1, 2, 0, -1, -2, 0}, 2, 100, 2, {0, 0, 2, 1, 0, 2}, {1, 1}, {2, 1}, {1, 1, 0, 0, 0, 1, 2, 1, 1, 2, 0, 0}},
+    {"`1 2 0 1 -2 0`", 6, {1, 2, 0, 1, -2, 0}, 2, 100, 2, {0, 0, 2, 3, 1, 1}, {2, 1}, {1, 0}, {1, 1, 0, 0, 1, 3, 2, 2, 1, 0, 0, 0}},
+    {"`1 0 2 0 3 0`", 6, {1, 0, 2, 0, 3, 0}, 3, 100, 2, {0, 0, 3, 0, 3, 0}, {2, 2, 2}, {1, 2, 3},
      {1, 1, 0, 0, 0, 0, 2, 2, 1, 0, 0, 0, 3, 2, 2, 0, 0, 0}},
-    {"`1 0 2 0 3 0`, chunk limit 1", 6, {1, 0, 2, 0, 3, 0}, 3, 100, 1, {0, 0, 4, 0, 3, 0}, {2, 2, 2},
+    {"`1 0 2 0 3 0`, chunk limit 1", 6, {1, 0, 2, 0, 3, 0}, 3, 100, 1, {0, 0, 4, 0, 3, 0}, {2, 2, 2}, {1, 2, 3},
      {1, 1, 0, 0, 0, 0, 2, 2, 1, 0, 0, 0, 3, 2, 1, 0, 0, 0, 4, 2, 1, 0, 0, 0}},
-    {"`1 2 3 0`", 4, {1, 2, 3, 0}, 3, 100, 2, {0, 0, 2, 3, 0, 3}, {1, 1, 1}, {1, 1, 0, 0, 2, 2, 2, 1, 1, 1, 0, 1}},
-    {"`1 2 3 0`, budget 2", 4, {1, 2, 3, 0}, 3, 2, 2, {21, 0, 2, 2, 0, 2}, {1, 1, 0}, {1, 1, 0, 0, 2, 2, 2, 3, 1, 0, 0, 0}},
+    {"`1 2 3 0`", 4, {1, 2, 3, 0}, 3, 100, 2, {0, 0, 2, 3, 0, 3}, {1, 1, 1}, {0, 0, 1}, {1, 1, 0, 0, 2, 2, 2, 1, 1, 1, 0, 1}},
+    {"`1 2 3 0`, budget 2", 4, {1, 2, 3, 0}, 3, 2, 2, {21, 0, 2, 2, 0, 2}, {1, 1, 0}, {0, 0, 1}, {1, 1, 0, 0, 2, 2, 2, 3, 1, 0, 0, 0}},
 };
 
 static void runnings(void)
 {
     for (size_t i = 0; i < LEN(smalls); i++) {
         const small *s = &smalls[i];
-        runs_list(s->what, (given){s->list, s->len, s->vars, s->budget, s->chunk_limit}, s->expected, s->status, s->rows);
+        runs_list(s->what, (given){s->list, s->len, s->vars, s->budget, s->chunk_limit}, s->expected,
+                  (filled){s->status, s->hints, s->rows});
     }
     static const int32_t unit[] = {1, 0}, not_ended[] = {1, 0, -1}, above[] = {1, 0, 2, 0, 3, 0}, least[] = {1, INT32_MIN, 0, -2, 0};
     static const int32_t both[] = {2, 0, 2};
@@ -231,8 +250,10 @@ static void runnings(void)
 
     static int32_t many[IGB_ENTRIES_MAX + 1];
     static const uint32_t none[] = {1, 2, 0, 0, 0, 0}, forced[] = {1, 1, 0, 0, 0, 0, 2, 2, 1, 0, 0, 0};
+    static const uint32_t zeros[IGB_HINTS_LEN], one[] = {1};
     const uint8_t on = IGB_FORCED_ON, open = IGB_OPEN;
-    runs_list("1,024 zeros", (given){many, 1024, 1, 100, 2}, (igb_report){IGB_NO_MODEL, 0, 1, 0, 0, 0}, &open, none);
+    runs_list("1,024 zeros", (given){many, 1024, 1, 100, 2}, (igb_report){IGB_NO_MODEL, 0, 1, 0, 0, 0},
+              (filled){&open, zeros, none});
     refuses_run("a 1,025th zero", (given){many, 1025, 1, 100, 2}, 1, 12, IGB_BAD_LIST, 1024);
     many[1500] = 2;
     refuses_run("a 1,025th zero before a variable above", (given){many, 4096, 1, 100, 2}, 1, 12, IGB_BAD_LIST, 1024);
@@ -241,12 +262,14 @@ static void runnings(void)
         many[i] = 1;
     refuses_run("4,096 entries and no 0", (given){many, 4096, 1, 100, 2}, 1, 12, IGB_BAD_LIST, 4096);
     many[IGB_ENTRIES_MAX - 1] = 0;
-    runs_list("4,096 entries", (given){many, 4096, 1, 100, 256}, (igb_report){IGB_OK, 0, 2, 0, 1, 0}, &on, forced);
+    runs_list("4,096 entries", (given){many, 4096, 1, 100, 256}, (igb_report){IGB_OK, 0, 2, 0, 1, 0},
+              (filled){&on, one, forced});
 
     uint8_t all[IGB_STATUS_LEN];
     memset(all, IGB_FREE, sizeof all);
     static const uint32_t once[] = {1, 1, 0, 0, 256, 256};
-    runs_list("256 variables", (given){NULL, 0, 256, UINT32_MAX, 256}, (igb_report){IGB_OK, 0, 1, 256, 0, 256}, all, once);
+    runs_list("256 variables", (given){NULL, 0, 256, UINT32_MAX, 256}, (igb_report){IGB_OK, 0, 1, 256, 0, 256},
+              (filled){all, zeros, once});
 }
 
 /* ---- the table */
@@ -271,7 +294,7 @@ static void tables(void)
     static const struct {
         const char *text, *table;
     } cases[] = {
-        {"p cnf 2 2\n1 2 0 1 -2 0\n", "answer 0 calls 2 tries 3 forced 1 free 1 open 0\n1 forced on\n2 free\n"},
+        {"p cnf 2 2\n1 2 0 1 -2 0\n", "answer 0 calls 2 tries 3 forced 1 free 1 open 0\n1 forced on held by clause 1\n2 free\n"},
         {"p cnf 1 1\n-1 0\n", "answer 0 calls 2 tries 0 forced 1 free 0 open 0\n1 forced off\n"},
         {"p cnf 1 2\n1 0 -1 0\n", "answer 20 calls 1 tries 0 forced 0 free 0 open 1\n"},
         {"p cnf 1 1\n2 0", "refused 7 place 10\n"},
@@ -303,14 +326,14 @@ static void nulls(void)
     const char *what = "NULL";
     int32_t entries[IGB_ENTRIES_LEN] = {1};
     uint8_t out[IGB_TABLE_LEN];
-    uint32_t log[12];
+    uint32_t log[12], hint;
     igb_reading none = igb_read(NULL, 0, NULL, 0), empty = igb_read(NULL, 0, entries, IGB_ENTRIES_LEN);
     CHECK(none.answer == IGB_SHORT_BUFFER && none.place == 0 && none.vars == 0 && none.clauses == 0 && none.count == 0, what);
     CHECK(empty.answer == IGB_BAD_HEADER && empty.place == 0 && empty.count == 0 && entries[0] == 0, what);
-    CHECK(is_report(igb_run(NULL, 0, 0, 100, 2, NULL, 0, NULL, 0), (igb_report){IGB_SHORT_BUFFER, 0, 0, 0, 0, 0}), what);
-    CHECK(is_report(igb_run(NULL, 0, 0, 100, 0, NULL, 0, NULL, 0), (igb_report){IGB_BAD_LIMITS, 0, 0, 0, 0, 0}), what);
-    CHECK(is_report(igb_run(NULL, 0, 0, 100, 2, NULL, 0, log, 6), (igb_report){IGB_OK, 0, 1, 0, 0, 0}), what);
-    CHECK(is_report(igb_run(NULL, 0, 1, 100, 2, out, 1, log, 12), (igb_report){IGB_OK, 0, 1, 1, 0, 1}), what);
+    CHECK(is_report(igb_run(NULL, 0, 0, 100, 2, NULL, 0, NULL, 0, NULL, 0), (igb_report){IGB_SHORT_BUFFER, 0, 0, 0, 0, 0}), what);
+    CHECK(is_report(igb_run(NULL, 0, 0, 100, 0, NULL, 0, NULL, 0, NULL, 0), (igb_report){IGB_BAD_LIMITS, 0, 0, 0, 0, 0}), what);
+    CHECK(is_report(igb_run(NULL, 0, 0, 100, 2, NULL, 0, NULL, 0, log, 6), (igb_report){IGB_OK, 0, 1, 0, 0, 0}), what);
+    CHECK(is_report(igb_run(NULL, 0, 1, 100, 2, out, 1, &hint, 1, log, 12), (igb_report){IGB_OK, 0, 1, 1, 0, 1}), what);
     CHECK(igb_table(NULL, 0, NULL, 0) == 0, what);
     CHECK(igb_table(NULL, 0, out, IGB_TABLE_LEN) == 18 && memcmp(out, "refused 3 place 0\n", 18) == 0, what);
 }

@@ -12,7 +12,7 @@ enum { LARGE = 8 << 20, BELOW = 4 << 20, PAINT = 0xA5 };
 
 static int32_t entries[IGB_ENTRIES_LEN];
 static uint8_t status[IGB_STATUS_LEN], table[IGB_TABLE_LEN];
-static uint32_t log_rows[IGB_LOG_LEN];
+static uint32_t hints[IGB_HINTS_LEN], log_rows[IGB_LOG_LEN];
 
 static void *nothing(void *unused)
 {
@@ -30,7 +30,7 @@ static void *read_largest(void *unused)
 
 static void *run_deepest(void *unused)
 {
-    igb_report got = igb_run(entries, 0, 256, UINT32_MAX, 256, status, IGB_STATUS_LEN, log_rows, IGB_LOG_LEN);
+    igb_report got = igb_run(entries, 0, 256, UINT32_MAX, 256, status, IGB_STATUS_LEN, hints, IGB_HINTS_LEN, log_rows, IGB_LOG_LEN);
     CHECK(got.answer == IGB_OK && got.tries == 256 && got.free == 256, "the deepest run");
     return unused;
 }

@@ -20,7 +20,7 @@ typedef struct {
     igb_report report;
     int32_t entries[IGB_ENTRIES_LEN];
     uint8_t status[IGB_STATUS_LEN], table[IGB_TABLE_LEN];
-    uint32_t log[IGB_LOG_LEN];
+    uint32_t hints[IGB_HINTS_LEN], log[IGB_LOG_LEN];
     size_t table_len;
 } said;
 
@@ -33,7 +33,7 @@ static void ask(const char *card, said *s)
     const uint8_t *text = (const uint8_t *)card;
     s->reading = igb_read(text, strlen(card), s->entries, IGB_ENTRIES_LEN);
     s->report = igb_run(s->entries, s->reading.count, s->reading.vars, IGB_TABLE_BUDGET, IGB_TABLE_CHUNK, s->status, IGB_STATUS_LEN,
-                        s->log, IGB_LOG_LEN);
+                        s->hints, IGB_HINTS_LEN, s->log, IGB_LOG_LEN);
     s->table_len = igb_table(text, strlen(card), s->table, IGB_TABLE_LEN);
 }
 

@@ -2,13 +2,14 @@
 //!
 //!   call run           or read, or table
 //!   paint 1
-//!   vars 3             run: variables, budget, chunk limit, lengths of both buffers, and the list
+//!   vars 3             run: variables, budget, chunk limit, lengths of the buffers, and the list
 //!   budget 100
 //!   chunk_limit 2
 //!   status_len 3
+//!   hints_len 3
 //!   log_len 24
 //!   entries 1 2 3 0
-//!   room 4096          read and table: length of the buffer, and the text, with \n \t \r \\ and \xHH for what is not printed
+//!   room 9216          read and table: length of the buffer, and the text, with \n \t \r \\ and \xHH for what is not printed
 //!   text p cnf 1 1\n1 0\n
 
 use std::collections::BTreeMap;
@@ -18,7 +19,7 @@ use std::str::FromStr;
 #[derive(Clone)]
 pub enum Call {
     Read { text: Vec<u8>, room: usize },
-    Run { entries: Vec<i32>, vars: u32, budget: u32, chunk_limit: u32, status_len: usize, log_len: usize },
+    Run { entries: Vec<i32>, vars: u32, budget: u32, chunk_limit: u32, status_len: usize, hints_len: usize, log_len: usize },
     Table { text: Vec<u8>, room: usize },
 }
 
@@ -80,9 +81,9 @@ impl fmt::Display for Case {
         writeln!(f, "call {}\npaint {}", self.call.name(), self.paint)?;
         match &self.call {
             Call::Read { text, room } | Call::Table { text, room } => writeln!(f, "room {room}\ntext {}", escaped(text)),
-            Call::Run { entries, vars, budget, chunk_limit, status_len, log_len } => {
+            Call::Run { entries, vars, budget, chunk_limit, status_len, hints_len, log_len } => {
                 writeln!(f, "vars {vars}\nbudget {budget}\nchunk_limit {chunk_limit}")?;
-                writeln!(f, "status_len {status_len}\nlog_len {log_len}")?;
+                writeln!(f, "status_len {status_len}\nhints_len {hints_len}\nlog_len {log_len}")?;
                 let list: Vec<String> = entries.iter().map(i32::to_string).collect();
                 writeln!(f, "entries {}", list.join(" "))
             }
@@ -109,6 +110,7 @@ impl FromStr for Case {
                 budget: number(word("budget")?)?,
                 chunk_limit: number(word("chunk_limit")?)?,
                 status_len: number(word("status_len")?)?,
+                hints_len: number(word("hints_len")?)?,
                 log_len: number(word("log_len")?)?,
             },
             other => return Err(format!("no call '{other}'")),

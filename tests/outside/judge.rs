@@ -29,7 +29,7 @@ pub fn faults() -> Vec<String> {
     let mut all: Vec<String> = ["answer", "place", "vars", "clauses", "count"].map(|n| format!("read.{n}")).to_vec();
     all.extend(["answer", "place", "calls", "tries", "forced", "free"].map(|n| format!("run.{n}")));
     all.push("table.length".to_string());
-    for name in ["read.entries", "run.status", "run.log", "table.out"] {
+    for name in ["read.entries", "run.status", "run.hints", "run.log", "table.out"] {
         all.extend(["before", "first", "last", "behind"].map(|place| format!("{name}.{place}")));
     }
     for name in ["read.text", "run.list", "run.models", "table.text"] {
@@ -143,12 +143,13 @@ fn read(r: &mut Random, text: &[u8], room: usize) -> (Seen, Seen) {
 fn run(r: &mut Random, g: &Given) -> (Seen, Seen) {
     let (mut got, mut want) = (Seen::default(), Seen::default());
     let status_before = painted(r, g.status_len, |x| x as u8);
+    let hints_before = painted(r, g.hints_len, |x| x as u32);
     let log_before = painted(r, g.log_len, |x| x as u32);
-    let (mut status, mut log) = (status_before.clone(), log_before.clone());
+    let (mut status, mut hints, mut log) = (status_before.clone(), hints_before.clone(), log_before.clone());
     let lent = Box::<[i32]>::from(g.entries);
     let (s, l) = (&mut status[GUARD..GUARD + g.status_len], &mut log[GUARD..GUARD + g.log_len]);
-    let x = raw::run(&lent, g.vars, g.budget, g.chunk_limit, s, l);
-    let (mut new_status, mut new_log) = (Vec::new(), Vec::new());
+    let x = raw::run(&lent, g.vars, g.budget, g.chunk_limit, s, &mut hints[GUARD..GUARD + g.hints_len], l);
+    let (mut new_status, mut new_hints, mut new_log) = (Vec::new(), Vec::new(), Vec::new());
     let numbers = match rules::run(g) {
         Err((answer, place)) => [answer as usize, place, 0, 0, 0, 0],
         Ok(report) => {
@@ -156,6 +157,7 @@ fn run(r: &mut Random, g: &Given) -> (Seen, Seen) {
             new_log.resize(6 * (g.vars as usize + 1), 0);
             let numbers = [report.answer as usize, 0, report.log.len(), report.tries as usize, report.forced(), report.free()];
             new_status = report.status;
+            new_hints = report.hints;
             numbers
         }
     };
@@ -166,6 +168,8 @@ fn run(r: &mut Random, g: &Given) -> (Seen, Seen) {
     }
     got.buffer("run.status", &status, new_status.len());
     want.buffer("run.status", &written(&status_before, &new_status), new_status.len());
+    got.buffer("run.hints", &hints, new_hints.len());
+    want.buffer("run.hints", &written(&hints_before, &new_hints), new_hints.len());
     got.buffer("run.log", &log, new_log.len());
     want.buffer("run.log", &written(&log_before, &new_log), new_log.len());
     kept("run.list", g.entries, &lent, &mut got, &mut want);
@@ -191,7 +195,7 @@ fn table(r: &mut Random, text: &[u8], room: usize) -> (Seen, Seen) {
     let mut out = before.clone();
     let lent = Box::<[u8]>::from(text);
     let length = raw::table(&lent, &mut out[GUARD..GUARD + room]);
-    let expected = if room < 4_096 { String::new() } else { rules::table(text) };
+    let expected = if room < rules::MAX_TABLE { String::new() } else { rules::table(text) };
     got.number("table.length", length as i64);
     want.number("table.length", expected.len() as i64);
     got.buffer("table.out", &out, expected.len());
@@ -206,9 +210,8 @@ pub fn judge(case: &Case, fault: Option<&str>) -> (i64, Option<String>) {
     let mut r = Random::of_seed(case.paint);
     let (mut got, want) = match &case.call {
         Call::Read { text, room } => read(&mut r, text, *room),
-        Call::Run { entries, vars, budget, chunk_limit, status_len, log_len } => {
-            let (vars, budget, chunk_limit) = (*vars, *budget, *chunk_limit);
-            run(&mut r, &Given { entries, vars, budget, chunk_limit, status_len: *status_len, log_len: *log_len })
+        &Call::Run { ref entries, vars, budget, chunk_limit, status_len, hints_len, log_len } => {
+            run(&mut r, &Given { entries, vars, budget, chunk_limit, status_len, hints_len, log_len })
         }
         Call::Table { text, room } => table(&mut r, text, *room),
     };

@@ -1,11 +1,10 @@
 //! Cases: those at the edges of the rules, always the same, and cases at random.
 
 use crate::case::Call;
-use crate::rules::{self, Given, MAX_CLAUSES, MAX_ENTRIES, MAX_TEXT, MAX_VARS};
+use crate::rules::{self, Given, MAX_CLAUSES, MAX_ENTRIES, MAX_TABLE, MAX_TEXT, MAX_VARS};
 use crate::texts::{random_text, text_of, with_comments, with_percent, Random};
 
 const LIMITS: [u32; 5] = [1, 2, 3, 16, 256];
-const TABLE: usize = 4_096;
 
 fn log_of(vars: u32) -> usize {
     6 * (vars as usize + 1)
@@ -13,16 +12,16 @@ fn log_of(vars: u32) -> usize {
 
 /// A run with exact buffers.
 fn exact(entries: Vec<i32>, vars: u32, budget: u32, chunk_limit: u32) -> Call {
-    Call::Run { entries, vars, budget, chunk_limit, status_len: vars as usize, log_len: log_of(vars) }
+    Call::Run { entries, vars, budget, chunk_limit, status_len: vars as usize, hints_len: vars as usize, log_len: log_of(vars) }
 }
 
 // ---- the edges
 
 /// One text in buffers of every interesting length, read and as a table.
 fn in_all_rooms(text: &[u8], calls: &mut Vec<Call>) {
-    for room in [0, 1, 4_095, 4_096, 4_097, 5_000] {
-        calls.push(Call::Read { text: text.to_vec(), room });
-        calls.push(Call::Table { text: text.to_vec(), room });
+    for (entries, table) in [(0, 0), (1, 1), (4_095, 9_215), (4_096, 9_216), (4_097, 9_217), (5_000, 10_000)] {
+        calls.push(Call::Read { text: text.to_vec(), room: entries });
+        calls.push(Call::Table { text: text.to_vec(), room: table });
     }
 }
 
@@ -87,9 +86,11 @@ pub fn edges() -> Vec<Call> {
     for (list, vars) in edge_lists() {
         // the longest buffers that a run could ask for, and a little more, where the variables are too many
         let (vs, log) = (vars.min(300) as usize, log_of(vars.min(300)));
-        for (status_len, log_len) in [(vs, log), (vs + 3, log + 7), (vs.max(1) - 1, log), (vs, log - 1), (0, 0)] {
+        let less = vs.max(1) - 1;
+        let lengths = [(vs, vs, log), (vs + 3, vs + 5, log + 7), (less, vs, log), (vs, less, log), (vs, vs, log - 1), (0, 0, 0)];
+        for (status_len, hints_len, log_len) in lengths {
             for (budget, chunk_limit) in [(100, 2), (0, 1), (u32::MAX, 256), (100, 0), (100, 257), (100, u32::MAX)] {
-                calls.push(Call::Run { entries: list.clone(), vars, budget, chunk_limit, status_len, log_len });
+                calls.push(Call::Run { entries: list.clone(), vars, budget, chunk_limit, status_len, hints_len, log_len });
             }
         }
     }
@@ -138,12 +139,14 @@ fn every_budget(r: &mut Random, calls: &mut Vec<Call>) {
     let clauses = r.below(4 * u64::from(vars) + 3);
     let entries = random_list(r, vars, clauses);
     for chunk_limit in LIMITS {
-        let given = Given { entries: &entries, vars, budget: u32::MAX, chunk_limit, status_len: vars as usize, log_len: log_of(vars) };
+        let (status_len, hints_len, log_len) = (vars as usize, vars as usize, log_of(vars));
+        let given = Given { entries: &entries, vars, budget: u32::MAX, chunk_limit, status_len, hints_len, log_len };
         let needed = rules::run(&given).expect("the list keeps the rules").tries as u32;
         for budget in (0..=needed + 1).chain([u32::MAX]) {
             let mut call = exact(entries.clone(), vars, budget, chunk_limit);
-            if let Call::Run { status_len, log_len, .. } = &mut call {
+            if let Call::Run { status_len, hints_len, log_len, .. } = &mut call {
                 stretch(r, status_len);
+                stretch(r, hints_len);
                 stretch(r, log_len);
             }
             calls.push(call);
@@ -181,8 +184,9 @@ fn refused(r: &mut Random) -> Call {
     let list = random_list(r, vars, clauses);
     let mut call = exact(list, vars, r.below(50) as u32, one_of(r, &LIMITS));
     for _ in 0..=r.below(3) {
-        let Call::Run { entries, vars, chunk_limit, status_len, log_len, .. } = &mut call else { unreachable!("it is a run") };
-        match r.below(16) {
+        let Call::Run { entries, vars, chunk_limit, status_len, hints_len, log_len, .. } = &mut call else { unreachable!("it is a run") };
+        match r.below(17) {
+            16 => *hints_len = r.below(*hints_len as u64 + 1) as usize,
             0 => *vars = one_of(r, &[257, 258, 1 << 16, 1 << 31, u32::MAX]),
             1 => *chunk_limit = one_of(r, &[0, 257, 1 << 16, u32::MAX]),
             2 => *status_len = r.below(*status_len as u64 + 1) as usize,
@@ -298,10 +302,11 @@ fn some_text(r: &mut Random, calls: &mut Vec<Call>) {
             damaged(r, &mut text);
         }
     }
-    let mut room = TABLE;
+    let (mut room, mut table) = (MAX_ENTRIES, MAX_TABLE);
     stretch(r, &mut room);
+    stretch(r, &mut table);
     calls.push(Call::Read { text: text.clone(), room });
-    calls.push(Call::Table { text, room });
+    calls.push(Call::Table { text, room: table });
 }
 
 /// The calls of one case at random.

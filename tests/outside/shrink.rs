@@ -53,13 +53,14 @@ fn smaller(call: &Call) -> Vec<Call> {
     match call {
         Call::Read { text, room } => smaller_texts(text).into_iter().map(|text| Call::Read { text, room: *room }).collect(),
         Call::Table { text, room } => smaller_texts(text).into_iter().map(|text| Call::Table { text, room: *room }).collect(),
-        Call::Run { entries, vars, budget, chunk_limit, status_len, log_len } => {
+        Call::Run { entries, vars, budget, chunk_limit, status_len, hints_len, log_len } => {
             let (vars, budget, chunk_limit) = (*vars, *budget, *chunk_limit);
-            // with fewer variables both buffers have as much room behind as before
+            // with fewer variables the buffers have as much room behind as before
             let with = |entries: Vec<i32>, fewer: u32, budget, chunk_limit| {
                 let less = (vars - fewer) as usize;
-                let (status_len, log_len) = (status_len.saturating_sub(less), log_len.saturating_sub(6 * less));
-                Call::Run { entries, vars: fewer, budget, chunk_limit, status_len, log_len }
+                let (status_len, hints_len) = (status_len.saturating_sub(less), hints_len.saturating_sub(less));
+                let log_len = log_len.saturating_sub(6 * less);
+                Call::Run { entries, vars: fewer, budget, chunk_limit, status_len, hints_len, log_len }
             };
             let mut all: Vec<Call> = Vec::new();
             all.extend(formulas(vars, entries).into_iter().map(|(fewer, list)| with(list, fewer, budget, chunk_limit)));

@@ -41,7 +41,8 @@ fn difference(program: &str, text: &[u8]) -> Option<String> {
     }
     if let Ok(f) = read(text) {
         if f.vars <= 20 {
-            let lines = by_models(f.vars, &clauses_of(&f.entries)).map_or(String::new(), |status| status_lines(&status));
+            let hints = run_of(&f).hints;
+            let lines = by_models(f.vars, &clauses_of(&f.entries)).map_or(String::new(), |status| status_lines(&status, &hints));
             if !got.starts_with("answer 21 ") && !got.ends_with(&format!("\n{lines}")) {
                 return Some(format!("all models say\n{lines}but it printed\n{got}"));
             }

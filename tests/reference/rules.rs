@@ -8,6 +8,7 @@ pub const MAX_TEXT: usize = 32_768;
 pub const MAX_VARS: usize = 256;
 pub const MAX_CLAUSES: usize = 1_024;
 pub const MAX_ENTRIES: usize = 4_096;
+pub const MAX_TABLE: usize = 9_216;
 
 /// A refusal: its number and its place.
 pub type Refusal = (u32, usize);
@@ -221,6 +222,7 @@ pub struct Given<'a> {
     pub budget: u32,
     pub chunk_limit: u32,
     pub status_len: usize,
+    pub hints_len: usize,
     pub log_len: usize,
 }
 
@@ -229,6 +231,7 @@ pub struct Report {
     pub answer: u32,
     pub tries: u64,
     pub status: Vec<u8>,
+    pub hints: Vec<u32>,
     pub log: Vec<[u64; 6]>,
 }
 
@@ -248,7 +251,7 @@ fn refusal(g: &Given) -> Option<Refusal> {
     if vars > MAX_VARS || g.chunk_limit == 0 || g.chunk_limit as usize > MAX_VARS {
         return Some((10, 0));
     }
-    if g.status_len < vars || g.log_len < 6 * (vars + 1) {
+    if g.status_len < vars || g.hints_len < vars || g.log_len < 6 * (vars + 1) {
         return Some((1, 0));
     }
     if es.len() > MAX_ENTRIES {
@@ -264,8 +267,19 @@ fn refusal(g: &Given) -> Option<Refusal> {
     es.iter().position(|e| e.unsigned_abs() > g.vars).map(|i| (12, i))
 }
 
+fn is_true(clause: &Clause, model: &[bool]) -> bool {
+    clause.iter().any(|&l| model[l.unsigned_abs() as usize - 1] == (l > 0))
+}
+
 fn holds(clauses: &[Clause], model: &[bool]) -> bool {
-    clauses.iter().all(|c| c.iter().any(|&l| model[l.unsigned_abs() as usize - 1] == (l > 0)))
+    clauses.iter().all(|c| is_true(c, model))
+}
+
+/// The number of the first clause that a variable, flipped alone in the model, makes false; 0 if it makes none false.
+fn hint(clauses: &[Clause], model: &[bool], variable: usize) -> u32 {
+    let mut other = model.to_vec();
+    other[variable] = !other[variable];
+    clauses.iter().position(|c| !is_true(c, &other)).map_or(0, |i| i as u32 + 1)
 }
 
 /// The run; an error where it is refused.
@@ -277,7 +291,7 @@ pub fn run(g: &Given) -> Result<Report, Refusal> {
     let limit = g.chunk_limit as usize;
     let clauses = clauses_of(g.entries);
     let mut meter = Meter { budget: g.budget.into(), spent: 0 };
-    let mut r = Report { status: vec![0; vars], ..Report::default() };
+    let mut r = Report { status: vec![0; vars], hints: vec![0; vars], ..Report::default() };
     let mut first: Vec<bool> = Vec::new();
     let mut candidates: Vec<i32> = Vec::new();
     let mut forced: Vec<i32> = Vec::new();
@@ -298,6 +312,7 @@ pub fn run(g: &Given) -> Result<Report, Refusal> {
             End::Model(model) => {
                 if number == 1 {
                     first = model.clone();
+                    r.hints = (0..vars).map(|i| hint(&clauses, &first, i)).collect();
                     candidates = (1..=vars as i32).map(|v| if first[v as usize - 1] { v } else { -v }).collect();
                 }
                 let all = candidates.len();
@@ -347,18 +362,19 @@ pub fn run(g: &Given) -> Result<Report, Refusal> {
 pub fn run_of(f: &Formula) -> Report {
     let vars = f.vars as u32;
     let log_len = 6 * (f.vars + 1);
-    run(&Given { entries: &f.entries, vars, budget: 1_000_000, chunk_limit: 16, status_len: f.vars, log_len })
+    run(&Given { entries: &f.entries, vars, budget: 1_000_000, chunk_limit: 16, status_len: f.vars, hints_len: f.vars, log_len })
         .expect("the run of an accepted text is not refused")
 }
 
 // ---- the table
 
-/// A line a variable.
-pub fn status_lines(status: &[u8]) -> String {
+/// A line a variable, with its hint where it is forced.
+pub fn status_lines(status: &[u8], hints: &[u32]) -> String {
     let mut out = String::new();
-    for (i, s) in status.iter().enumerate() {
-        let word = ["open", "free", "forced on", "forced off"][*s as usize];
-        writeln!(out, "{} {word}", i + 1).expect("a string takes every byte");
+    for (i, (&s, hint)) in status.iter().zip(hints).enumerate() {
+        let word = ["open", "free", "forced on", "forced off"][s as usize];
+        let held = if s >= 2 { format!(" held by clause {hint}") } else { String::new() };
+        writeln!(out, "{} {word}{held}", i + 1).expect("a string takes every byte");
     }
     out
 }
@@ -372,7 +388,7 @@ pub fn table(text: &[u8]) -> String {
     let (calls, forced, free) = (r.log.len(), r.forced(), r.free());
     let open = f.vars - forced - free;
     let first = format!("answer {} calls {calls} tries {} forced {forced} free {free} open {open}\n", r.answer, r.tries);
-    first + &if r.answer == 20 { String::new() } else { status_lines(&r.status) }
+    first + &if r.answer == 20 { String::new() } else { status_lines(&r.status, &r.hints) }
 }
 
 // ---- the definition

@@ -5,6 +5,7 @@
 --   first-over, first-clauses, first-called     what the first call needs and is, and what its end says
 --   done-by-row       the first call found no model, or was stopped
 --   first-at, done-from-model     the first call found a model
+--   hints-done        the hints of the first model, or of none, are those of the rules
 --
 -- Assumes nothing.
 use mathlib.Core.Path.{_≡_, refl, sym, _∙_, ap}
@@ -20,24 +21,29 @@ use Rattle.rules.specs.declared.Report.{Report}
 use Rattle.rules.specs.Numbers.{maxVars}
 use Rattle.rules.specs.Meaning.{Values, clauses}
 use Rattle.rules.specs.Search.{Call, model, no-model, stopped}
-use Rattle.rules.specs.Run.{Task, opens, begun, afterModel, firstCall, onFirst, chunks, run}
+use Rattle.rules.specs.Run.{Task, opens, blank, begun, afterModel, firstCall, onFirst, chunks, run}
+use Rattle.rules.specs.Hints.{hintAt, hintsIn, hintsOf}
 use Rattle.rules.specs.Trace.{Reached, first-model}
 use Rattle.rules.specs.Answer.{logLength}
+use Rattle.rules.specs.Lists.{tabled}
 use Rattle.rules.proofs.LogLaws.{blank-counts}
+use Rattle.rules.proofs.HintTheorems.{first-model as model-found}
 use Rattle.formula.specs.Starts.{callClauses}
 use Rattle.formula.specs.Formula.{Formula}
 use Rattle.formula.proofs.ClauseLaws.{callClauses-formula, length-starts, nil-up-to}
 use Rattle.search.specs.declared.call.CallEnd.{CallEnd}
 use Rattle.search.specs.Closings.{CallOver}
-use Rattle.search.specs.Calls.{CallEnds}
+use Rattle.search.specs.Calls.{valuesAfter, CallEnds}
 use Rattle.calls.specs.declared.after.Tally.{Tally}
 use Rattle.calls.specs.declared.after.Made.{Made}
 use Rattle.calls.specs.declared.next.Limits.{Limits}
 use Rattle.calls.specs.After.{Shows, EndsAt, RowRoom, RowLeft, TallyReady}
 use Rattle.calls.specs.Next.{At, task}
+use Rattle.steps.specs.Hint.{hintIn, HintsPut}
+use Rattle.steps.proofs.HintLaws.{hints-of-total, hints-of-blank}
 use Rattle.calls.proofs.AfterLaws.{ends-row}
 use Rattle.search.proofs.EndLaws.{was-otherwise}
-use Rattle.backbone.specs.First.{firstOn, Cleared, started, RunDone, ListDone}
+use Rattle.backbone.specs.First.{firstOn, Cleared, started, RunDone, ListDone, HintsDone}
 
 -- ---- the first model is kept
 
@@ -148,3 +154,30 @@ pub done-from-model : (k : Task) (m : Values) (t : ℕ) → firstCall k ≡ mode
     → EndsAt (k .vars) (chunks k size (afterModel k (begun k m) 0 m t)) r status log → RunDone k r status log
 done-from-model k m t e z w =
     rw (run-first k (model m t) e ∙ ap (λ (n : ℕ). chunks k n (afterModel k (begun k m) 0 m t)) (sym z)) w
+
+-- ---- the hints: of what the first call left where no value stood before
+
+hints-judged : (k : Task) {vs : Values} → vs ≡ valuesAfter (firstCall k) (blank (k .vars)) → tabled (hintIn (k .formula) vs) 0 (length vs) ≡ hintsOf k
+unfolding hintsOf
+hints-judged k {vs} e = ap (λ (ws : Values). tabled (hintIn (k .formula) ws) 0 (length ws)) e ∙ go (firstCall k) refl
+  where
+    -- no model was found
+    none-found : tabled (hintIn (k .formula) (blank (k .vars))) 0 (length (blank (k .vars))) ≡ replicate (k .vars) 0
+    none-found =
+        ap (tabled (hintIn (k .formula) (blank (k .vars))) 0) (length-replicate {A = ℕ} (k .vars) 0) ∙ hints-of-blank (k .formula) (k .vars)
+
+    go : (c : Call) → firstCall k ≡ c
+        → tabled (hintIn (k .formula) (valuesAfter c (blank (k .vars)))) 0 (length (valuesAfter c (blank (k .vars)))) ≡ hintsIn c k
+    go (model m t) q =
+        let x = model-found k m t q in
+        hints-of-total (k .formula) m (x .total) ∙ ap (tabled (hintAt (k .formula) m) 0) (x .len)
+    go (no-model t) q = none-found
+    go (stopped t) q = none-found
+
+-- and so the run is done with them
+pub hints-done : (es : List ℤ) (vars : ℕ) (limits : Limits) {first between after : Values} {r : Report} {status hints log : List ℕ}
+    → first ≡ blank vars → ListDone es vars limits first r between status log → HintsPut (clauses es) between after hints
+    → HintsDone es vars limits r after status hints log
+hints-done es vars limits e w p =
+    let done = rw e at w in
+    record { run-done = rw (p .values-same) done; hints-are = p .hints-are ∙ hints-judged (task es vars limits) (done .first-is) }

@@ -1,26 +1,20 @@
--- The laws of a list that no rule refuses: its clauses are counted by its zeros, its starts are found, and buffers are cleared.
+-- The laws of a list that no rule refuses: its starts are found, and buffers are cleared.
 --
 --   found-formula     the starts as they are found are those of a formula
 --   cleared           buffers that are set to 0 are cleared
 --   front-len         how long the front of a buffer is
 --
 -- Assumes nothing.
-use mathlib.Core.Path.{_≡_, refl, sym, _∙_, ap}
-use mathlib.Core.Bool.{Bool}
-use mathlib.Core.List.{List, [], _∷_}
-use Prim.Native.Nat.{ℕ, zero, suc, _+_, _≤_}
-use native.Mathlib.Omega.{arith}
-use lib.IntN.{ℤ, pos, negsuc, natAbs}
+use mathlib.Core.Path.{_≡_, sym, _∙_, ap}
+use mathlib.Core.List.{List}
+use Prim.Native.Nat.{ℕ, _+_, _≤_}
+use lib.IntN.{ℤ}
 use lib.ListN.{length, take, replicate}
 use lib.Seq.{length-take-le}
-use Rattle.rules.specs.Lists.{count, countIf}
-use Rattle.rules.specs.Meaning.{clauses}
-use Rattle.rules.specs.Reading.{isZero}
 use Rattle.rules.specs.Answer.{logLength}
-use Rattle.rules.proofs.ListLaws.{eqz-other}
 use Rattle.formula.specs.Starts.{startsOf, StartsFound}
 use Rattle.formula.specs.Formula.{Formula}
-use Rattle.formula.proofs.StartsLaws.{length-leading, found-front}
+use Rattle.formula.proofs.StartsLaws.{found-front}
 use Rattle.backbone.specs.First.{Cleared}
 
 -- the starts as they are found are those of the formula

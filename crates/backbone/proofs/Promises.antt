@@ -1,11 +1,13 @@
 -- What a caller of `run` gets: everything here follows from its contract, `Runs`, alone, and speaks of what was returned and of what
--- stands in the two buffers. The proofs are those of rules/proofs/Theorems.
+-- stands in the buffers. The proofs are those of rules/proofs/Theorems.
 --
 --   answered, refused-exactly     what is accepted, and each refusal exactly when its rule says
 --   nothing-written   a refused run
 --   settled-forced, settled-free, no-model-exactly     the published definition
 --   settled-none-open settled-same     a settled table has nothing open, and no limit changes it
 --   forced-sound, free-witness    what a stopped run has marked holds too
+--   forced-held       the clause that a forced literal's hint names
+--   hints-none        the hints where there is no first model
 --   calls-most, tries-most, counted, logged     calls, tries, counts and the log
 --   rest-stays        what stands behind the table and the rows
 --   one-answer        no second result and buffers
@@ -18,16 +20,19 @@ use mathlib.Core.List.{List}
 use mathlib.Core.Option.{Option, none, some}
 use Prim.Native.Nat.{ℕ, _+_, _≤_, _<_}
 use lib.IntN.{ℤ}
-use lib.ListN.{length, take, drop, replicate}
+use lib.ListN.{length, getD, take, drop, replicate}
+use Rattle.rules.specs.declared.Refusal.{Refusal}
 use Rattle.rules.specs.declared.RunAnswer.{RunAnswer}
 use Rattle.rules.specs.declared.Report.{Report}
 use Rattle.rules.specs.Lists.{count}
-use Rattle.rules.specs.Meaning.{LitUpTo, clauses}
+use Rattle.rules.specs.Meaning.{Values, LitUpTo, indexOf, clauses}
+use Rattle.rules.specs.Search.{model}
 use Rattle.rules.specs.Models.{NoModel, Forced, Free, WitnessOf}
-use Rattle.rules.specs.Run.{Task, Row, Ended, statusAt, isForcedTo, run}
+use Rattle.rules.specs.Run.{Task, Row, Ended, statusAt, isForcedTo, firstCall, run}
 use Rattle.rules.specs.Trace.{Ends, first-none, first-stopped, settled, next-stopped}
-use Rattle.rules.specs.Answer.{Given, given, logLength, refusalOf, taskOf, reportIf, reportOf, reportOfRun, logOfRows, isFree, isForced, Runs}
-use Rattle.rules.specs.RunRefusals.{Accepted, RunRefuses, bad-limits, short-buffer, list-long, not-ended, zero-over, entry-over-vars}
+use Rattle.rules.specs.Hints.{hintsOf, HeldBy}
+use Rattle.rules.specs.Answer.{Given, Buffers, given, logLength, refusalOf, taskOf, reportIf, reportOf, reportOfRun, logOfRows, isFree, isForced, Runs}
+use Rattle.rules.specs.RunRefusals.{Accepted, RunRefuses}
 use Rattle.rules.specs.Log.{LogOf}
 use Rattle.rules.proofs.ListLaws.{never}
 use Rattle.rules.proofs.RunTrace.{run-ends}
@@ -38,10 +43,7 @@ abbrev pub isAnswered : RunAnswer → Bool
 isAnswered RunAnswer.Settled = true
 isAnswered RunAnswer.NoModel = true
 isAnswered RunAnswer.Stopped = true
-isAnswered RunAnswer.ShortBuffer = false
-isAnswered RunAnswer.BadLimits = false
-isAnswered (RunAnswer.BadList at) = false
-isAnswered (RunAnswer.EntryOverVars at) = false
+isAnswered (RunAnswer.Refused a) = false
 
 ends-answered : {k : Task} {e : Ended} → Ends k e → isAnswered (e .answer) ≡ true
 ends-answered (first-none t e) = refl
@@ -49,50 +51,46 @@ ends-answered (first-stopped t e) = refl
 ends-answered (settled r o) = refl
 ends-answered (next-stopped t r o e) = refl
 
-rule-refuses : {g : Given} {a : RunAnswer} → RunRefuses g a → isAnswered a ≡ false
-rule-refuses (bad-limits h) = refl
-rule-refuses (short-buffer i h) = refl
-rule-refuses (list-long l h) = refl
-rule-refuses (not-ended l h front k e z) = refl
-rule-refuses (zero-over l h i front back e z) = refl
-rule-refuses (entry-over-vars l front k back e h z) = refl
-
-module _ {g : Given} {r : Report} {status log : List ℕ} (w : Runs g r status log) where
+module _ {g : Given} {r : Report} {after : Buffers} (w : Runs g r after) where
   -- ---- what is refused, and what is accepted
 
   -- a refused run returns zero counts and writes nothing
-  pub nothing-written : (a : RunAnswer) → RunRefuses g a
-      → (r ≡ record { answer = a; calls = 0; tries = 0; forced = 0; free = 0 }) × (status ≡ g .status) × (log ≡ g .log)
+  pub nothing-written : (a : Refusal) → RunRefuses g a
+      → (r ≡ record { answer = RunAnswer.Refused a; calls = 0; tries = 0; forced = 0; free = 0 })
+      × (after .status ≡ g .status) × (after .hints ≡ g .hints) × (after .log ≡ g .log)
   nothing-written a h =
-      let (e, s, l) = theorems.run-refused-nothing g a h in (w .result-is ∙ e, w .status-is ∙ s, w .log-is ∙ l)
+      let (e, s, n, l) = theorems.run-refused-nothing g a h in (w .result-is ∙ e, w .status-is ∙ s, w .hints-are ∙ n, w .log-is ∙ l)
 
   -- what an accepted run returns
   returned : Accepted g → r ≡ reportOfRun (run (taskOf g))
   unfolding reportOf
-  returned h = w .result-is ∙ ap (λ (o : Option RunAnswer). reportIf o (taskOf g)) (theorems.run-acceptance g .1 h)
+  returned h = w .result-is ∙ ap (λ (o : Option Refusal). reportIf o (taskOf g)) (theorems.run-acceptance g .1 h)
 
   accepted-answered : Accepted g → isAnswered (r .answer) ≡ true
   accepted-answered h = ap (λ (q : Report). isAnswered (q .answer)) (returned h) ∙ ends-answered (run-ends (taskOf g) (h .listed .lent .in-limits .limit-some))
 
-  judged : (a : RunAnswer) → r .answer ≡ a → (isAnswered a ≡ true → Accepted g) × (isAnswered a ≡ false → RunRefuses g a)
-  judged a e = go (refusalOf g) refl
-    where
-      go : (o : Option RunAnswer) → refusalOf g ≡ o → (isAnswered a ≡ true → Accepted g) × (isAnswered a ≡ false → RunRefuses g a)
-      go none q =
-          let h = theorems.run-acceptance g .0 q in
-          (λ t. h, λ f. absurd (never (accepted-answered h) (ap isAnswered e ∙ f)))
-      go (some b) q =
-          let h = theorems.run-refusals g b .0 q in
-          let same : b ≡ a = sym (ap (λ (z : Report). z .answer) (nothing-written b h .0)) ∙ e in
-          (λ t. absurd (never t (ap isAnswered (sym same) ∙ rule-refuses h)), λ f. rw (← same) h)
+  refused-answer : (a : Refusal) → RunRefuses g a → r .answer ≡ RunAnswer.Refused a
+  refused-answer a h = ap (λ (q : Report). q .answer) (nothing-written a h .0)
 
   -- 0, 20 and 21 are answered exactly if no rule refuses
   pub answered : (isAnswered (r .answer) ≡ true) ↔ Accepted g
-  answered = (judged (r .answer) refl .0, accepted-answered)
+  answered = (λ t. go (refusalOf g) refl t, accepted-answered)
+    where
+      go : (o : Option Refusal) → refusalOf g ≡ o → isAnswered (r .answer) ≡ true → Accepted g
+      go none q t = theorems.run-acceptance g .0 q
+      go (some b) q t = absurd (never t (ap isAnswered (refused-answer b (theorems.run-refusals g b .0 q))))
 
-  -- each refusal number and place exactly when its rule says so
-  pub refused-exactly : (a : RunAnswer) → isAnswered a ≡ false → (r .answer ≡ a) ↔ RunRefuses g a
-  refused-exactly a f = (λ e. judged a e .1 f, λ h. ap (λ (q : Report). q .answer) (nothing-written a h .0))
+  -- each refusal exactly when its rule says so
+  pub refused-exactly : (a : Refusal) → (r .answer ≡ RunAnswer.Refused a) ↔ RunRefuses g a
+  refused-exactly a = (λ e. go (refusalOf g) refl e, refused-answer a)
+    where
+      go : (o : Option Refusal) → refusalOf g ≡ o → r .answer ≡ RunAnswer.Refused a → RunRefuses g a
+      go none q e = absurd (never (accepted-answered (theorems.run-acceptance g .0 q)) (ap isAnswered e))
+      go (some b) q e =
+          let h = theorems.run-refusals g b .0 q in
+          let same : RunAnswer.Refused b ≡ RunAnswer.Refused a = sym (refused-answer b h) ∙ e in
+          let inner : b ≡ a = cc in
+          rw (← inner) h
 
   -- ---- an accepted run
 
@@ -103,21 +101,21 @@ module _ {g : Given} {r : Report} {status log : List ℕ} (w : Runs g r status l
     answer-is : r .answer ≡ run (taskOf g) .answer
     answer-is = ap (λ (q : Report). q .answer) (returned h)
 
-    table-is : take (g .vars) status ≡ run (taskOf g) .progress .statuses
+    table-is : take (g .vars) (after .status) ≡ run (taskOf g) .progress .statuses
     table-is = ap (take (g .vars)) (w .status-is) ∙ theorems.run-status g h .0
 
     -- settled: a literal is marked forced exactly if a model exists and all models contain it
     pub settled-forced : r .answer ≡ RunAnswer.Settled → (l : ℤ) → LitUpTo (g .vars) l
-        → isForcedTo (take (g .vars) status) l ↔ Forced (g .vars) (clauses (g .entries)) l
+        → isForcedTo (take (g .vars) (after .status)) l ↔ Forced (g .vars) (clauses (g .entries)) l
     settled-forced e = rw table-is (theorems.settled-forced (taskOf g) limit (sym answer-is ∙ e))
 
     -- settled: a variable is marked free exactly if two models differ on it
     pub settled-free : r .answer ≡ RunAnswer.Settled → (i : ℕ) → i < g .vars
-        → (statusAt (take (g .vars) status) i ≡ 1) ↔ Free (g .vars) (clauses (g .entries)) i
+        → (statusAt (take (g .vars) (after .status)) i ≡ 1) ↔ Free (g .vars) (clauses (g .entries)) i
     settled-free e = rw table-is (theorems.settled-free (taskOf g) limit (sym answer-is ∙ e))
 
     -- settled: no variable is open
-    pub settled-none-open : r .answer ≡ RunAnswer.Settled → (i : ℕ) → statusAt (take (g .vars) status) i ≢ 0
+    pub settled-none-open : r .answer ≡ RunAnswer.Settled → (i : ℕ) → statusAt (take (g .vars) (after .status)) i ≢ 0
     settled-none-open e = rw table-is (theorems.settled-none-open (taskOf g) limit (sym answer-is ∙ e))
 
     -- unless the budget stopped the run, "no model" is answered exactly if there is none
@@ -125,18 +123,18 @@ module _ {g : Given} {r : Report} {status log : List ℕ} (w : Runs g r status l
     no-model-exactly = rw answer-is (theorems.no-model-exactly (taskOf g) limit)
 
     -- after "no model" all variables are open, after one call
-    pub no-model-table : r .answer ≡ RunAnswer.NoModel → (take (g .vars) status ≡ replicate (g .vars) 0) × (r .calls ≡ 1)
+    pub no-model-table : r .answer ≡ RunAnswer.NoModel → (take (g .vars) (after .status) ≡ replicate (g .vars) 0) × (r .calls ≡ 1)
     no-model-table e =
         let (s, l) = theorems.no-model-table (taskOf g) limit (sym answer-is ∙ e) in
         (table-is ∙ s, ap (λ (q : Report). q .calls) (returned h) ∙ l)
 
     -- however the run ended: a literal marked forced is in all models, and there is one
-    pub forced-sound : (l : ℤ) → LitUpTo (g .vars) l → isForcedTo (take (g .vars) status) l → Forced (g .vars) (clauses (g .entries)) l
+    pub forced-sound : (l : ℤ) → LitUpTo (g .vars) l → isForcedTo (take (g .vars) (after .status)) l → Forced (g .vars) (clauses (g .entries)) l
     forced-sound = rw table-is (theorems.forced-sound (taskOf g) limit)
 
     -- however the run ended: a variable marked free has a model of that run, or one with this variable alone flipped that is still a
     -- model, that differs on it from the run's first model
-    pub free-witness : (i : ℕ) → i < g .vars → statusAt (take (g .vars) status) i ≡ 1
+    pub free-witness : (i : ℕ) → i < g .vars → statusAt (take (g .vars) (after .status)) i ≡ 1
         → WitnessOf (g .vars) (clauses (g .entries)) (run (taskOf g) .progress .models) i
     free-witness = rw table-is (theorems.free-witness (taskOf g) limit)
 
@@ -149,7 +147,7 @@ module _ {g : Given} {r : Report} {status log : List ℕ} (w : Runs g r status l
     tries-most = rw (returned h) (theorems.tries-bound (taskOf g) limit)
 
     -- the counts returned are those of the table
-    pub counted : (r .forced ≡ count isForced (take (g .vars) status)) × (r .free ≡ count isFree (take (g .vars) status))
+    pub counted : (r .forced ≡ count isForced (take (g .vars) (after .status))) × (r .free ≡ count isFree (take (g .vars) (after .status)))
     counted = (
       ap (λ (q : Report). q .forced) (returned h) ∙ ap (count isForced) (sym table-is),
       ap (λ (q : Report). q .free) (returned h)
@@ -158,7 +156,7 @@ module _ {g : Given} {r : Report} {status log : List ℕ} (w : Runs g r status l
 
     -- the log has a row for each call begun, and zeros behind; its rows are numbered from 1, each call after the first that finds a
     -- model frees at least one variable, each that finds none forces at least one, and the columns add up to what is returned
-    pub logged : (rows : List Row) × (take (logLength (g .vars)) log ≡ logOfRows (g .vars) rows) × (length rows ≡ r .calls)
+    pub logged : (rows : List Row) × (take (logLength (g .vars)) (after .log) ≡ logOfRows (g .vars) rows) × (length rows ≡ r .calls)
         × LogOf rows (r .free) (r .forced) (r .tries)
     logged = (
       run (taskOf g) .progress .rows,
@@ -168,24 +166,42 @@ module _ {g : Given} {r : Report} {status log : List ℕ} (w : Runs g r status l
       rw (returned h) (theorems.log-adds-up (taskOf g) limit),
     )
 
-    -- what stands behind the table and the rows stays
-    pub rest-stays : (drop (g .vars) status ≡ drop (g .vars) (g .status)) × (drop (logLength (g .vars)) log ≡ drop (logLength (g .vars)) (g .log))
-    rest-stays =
-        (ap (drop (g .vars)) (w .status-is) ∙ theorems.run-status g h .1, ap (drop (logLength (g .vars))) (w .log-is) ∙ theorems.run-log-buffer g h .1)
+    hints-are : take (g .vars) (after .hints) ≡ hintsOf (taskOf g)
+    hints-are = ap (take (g .vars)) (w .hints-are) ∙ theorems.run-hints g h .0
+
+    -- however the run ended: a literal marked forced has a hint; in the model that the first call found it is the only true literal of the
+    -- clause with that number
+    pub forced-held : (l : ℤ) → LitUpTo (g .vars) l → isForcedTo (take (g .vars) (after .status)) l
+        → (m : Values) × (t : ℕ) × (firstCall (taskOf g) ≡ model m t)
+        × HeldBy (clauses (g .entries)) m l (getD (take (g .vars) (after .hints)) (indexOf l) 0)
+    forced-held = rw (table-is, hints-are) (theorems.forced-held (taskOf g) limit (g .entries) refl)
+
+    -- each hint is 0 if no first model was found
+    pub hints-none : ((m : Values) (t : ℕ) → firstCall (taskOf g) ≡ model m t → ⊥) → take (g .vars) (after .hints) ≡ replicate (g .vars) 0
+    hints-none ne = hints-are ∙ theorems.unhinted (taskOf g) ne
+
+    -- what stands behind the table, the hints and the rows stays
+    pub rest-stays : (drop (g .vars) (after .status) ≡ drop (g .vars) (g .status))
+        × (drop (g .vars) (after .hints) ≡ drop (g .vars) (g .hints))
+        × (drop (logLength (g .vars)) (after .log) ≡ drop (logLength (g .vars)) (g .log))
+    rest-stays = (
+      ap (drop (g .vars)) (w .status-is) ∙ theorems.run-status g h .1,
+      ap (drop (g .vars)) (w .hints-are) ∙ theorems.run-hints g h .1,
+      ap (drop (logLength (g .vars))) (w .log-is) ∙ theorems.run-log-buffer g h .1,
+    )
 
   -- no second result and buffers meet the contract
-  pub one-answer : {r′ : Report} {status′ log′ : List ℕ} → Runs g r′ status′ log′ → (r ≡ r′) × (status ≡ status′) × (log ≡ log′)
+  pub one-answer : {r′ : Report} {after′ : Buffers} → Runs g r′ after′ → (r ≡ r′) × (after ≡ after′)
   one-answer v = theorems.runs-unique w v
 
 -- budget and chunk limit never change a settled status
-pub settled-same : {es : List ℤ} {vars : ℕ} (budget limit budget′ limit′ : ℕ) {st lg st′ lg′ status log status′ log′ : List ℕ} {r r′ : Report}
-    → Runs (given es vars budget limit st lg) r status log
-    → Runs (given es vars budget′ limit′ st′ lg′) r′ status′ log′
-    → Accepted (given es vars budget limit st lg) → Accepted (given es vars budget′ limit′ st′ lg′)
-    → r .answer ≡ RunAnswer.Settled → r′ .answer ≡ RunAnswer.Settled → take vars status ≡ take vars status′
-settled-same {es} {vars} budget limit budget′ limit′ {st} {lg} w v h i e f =
+pub settled-same : {es : List ℤ} {vars : ℕ} (budget limit budget′ limit′ : ℕ) {lent lent′ after after′ : Buffers} {r r′ : Report}
+    → Runs (given es vars budget limit lent) r after → Runs (given es vars budget′ limit′ lent′) r′ after′
+    → Accepted (given es vars budget limit lent) → Accepted (given es vars budget′ limit′ lent′)
+    → r .answer ≡ RunAnswer.Settled → r′ .answer ≡ RunAnswer.Settled → take vars (after .status) ≡ take vars (after′ .status)
+settled-same {es} {vars} budget limit budget′ limit′ {lent} w v h i e f =
     table-is w h ∙
-    theorems.settled-same (taskOf (given es vars budget limit st lg)) (limit-some h) budget′ limit′ (limit-some i) (sym (answer-is w h) ∙ e)
+    theorems.settled-same (taskOf (given es vars budget limit lent)) (limit-some h) budget′ limit′ (limit-some i) (sym (answer-is w h) ∙ e)
     (sym (answer-is v i) ∙ f) ∙
     sym (table-is v i)
   where

@@ -1,40 +1,47 @@
 -- The laws of `run`: what is refused, and what is accepted.
 --
+--   checked-is        what is checked is what a run is refused for
 --   runs-refused      a refused run: zero counts, and nothing is written
 --   runs-accepted     an accepted one: the run over the fronts of the buffers
 --   accepted          what no rule refuses
---   is-formula, clauses-most, log-len, allowed     and what its run requires
+--   is-formula, clauses-most, hints-len, log-len, allowed     and what its run requires
 --
 -- Assumes nothing.
 use mathlib.Core.Path.{_≡_, refl, sym, _∙_, ap}
+use mathlib.Core.Bool.{Bool}
 use mathlib.Core.List.{List, _++_}
 use mathlib.Core.Option.{Option, none, some}
 use Prim.Native.Nat.{ℕ, _≤_}
 use native.Mathlib.Omega.{arith}
 use lib.ListN.{length, take, drop}
 use lib.Seq.{length-take-le}
+use Rattle.rules.specs.declared.Refusal.{Refusal}
 use Rattle.rules.specs.declared.RunAnswer.{RunAnswer}
 use Rattle.rules.specs.declared.Report.{Report}
+use Rattle.rules.specs.Lists.{firstOf}
 use Rattle.rules.specs.Numbers.{maxClauses}
 use Rattle.rules.specs.Meaning.{clauses}
-use Rattle.rules.specs.Answer.{Given, logLength, refusalOf, taskOf, reportIf, reportOf, statusIf, statusAfter, logIf, logAfter, Runs}
+use Rattle.rules.specs.Hints.{hintsOf}
+use Rattle.rules.specs.Answer.{Given, Buffers, buffers, logLength, refusalOf, taskOf, reportIf, reportOf, statusIf, statusAfter, hintsIf, hintsAfter}
+use Rattle.rules.specs.Answer.{takingRules, outOfLimits, isShort, logIf, logAfter, Runs}
 use Rattle.rules.specs.RunRefusals.{Accepted}
 use Rattle.rules.proofs.ListLaws.{apart}
+use Rattle.rules.proofs.ClauseLaws.{length-clauses}
 use Rattle.rules.proofs.RefusedRuns.{run-accepted}
-use Rattle.refusals.specs.declared.Refusal.the-variants.{Accepted as NotRefused, Refused}
+use Rattle.refusals.specs.declared.Checked.{Checked}
+use Rattle.refusals.specs.declared.Checked.the-variants.{Accepted as NotRefused, Refused}
 use Rattle.refusals.specs.Refuse.{found}
 use Rattle.formula.specs.Starts.{startsOf}
 use Rattle.formula.specs.Formula.{Formula}
 use Rattle.calls.specs.declared.next.Limits.{Limits}
 use Rattle.calls.specs.Next.{Allowed, task}
-use Rattle.backbone.specs.First.{RunDone}
-use Rattle.backbone.proofs.ListingLaws.{length-clauses}
+use Rattle.backbone.specs.First.{RunDone, HintsDone}
 
-found-some : (o : Option RunAnswer) {a : RunAnswer} → Refused a ≡ found o → o ≡ some a
+found-some : (o : Option Refusal) {a : Refusal} → Refused a ≡ found o → o ≡ some a
 found-some none e = apart cc
 found-some (some b) e = cc
 
-found-none : (o : Option RunAnswer) → NotRefused ≡ found o → o ≡ none
+found-none : (o : Option Refusal) → NotRefused ≡ found o → o ≡ none
 found-none none e = refl
 found-none (some b) e = apart cc
 
@@ -43,15 +50,22 @@ abbrev pub limitsOf : Given → Limits
 limitsOf g = record { budget = g .budget; chunk = g .limit }
 
 module _ (g : Given) where
-  pub runs-refused : {a : RunAnswer} → Refused a ≡ found (refusalOf g)
-      → Runs g (record { answer = a; calls = 0; tries = 0; forced = 0; free = 0 }) (g .status) (g .log)
-  unfolding reportOf statusAfter logAfter
+  -- what the rules say of the list, with 10 and 1 as a run has them
+  pub checked-is : {bad short : Bool} {c : Checked} → bad ≡ outOfLimits (g .vars) (g .limit) → short ≡ isShort g
+      → c ≡ found (firstOf (takingRules bad short (g .entries) (g .vars))) → c ≡ found (refusalOf g)
+  unfolding refusalOf
+  checked-is b s e = rw (b, s) at e
+
+  pub runs-refused : {a : Refusal} → Refused a ≡ found (refusalOf g)
+      → Runs g (record { answer = RunAnswer.Refused a; calls = 0; tries = 0; forced = 0; free = 0 }) (buffers (g .status) (g .hints) (g .log))
+  unfolding reportOf statusAfter hintsAfter logAfter
   runs-refused e =
       let o = found-some (refusalOf g) e in
       record {
-        result-is = ap (λ (r : Option RunAnswer). reportIf r (taskOf g)) (sym o);
-        status-is = ap (λ (r : Option RunAnswer). statusIf r (taskOf g) (g .status)) (sym o);
-        log-is = ap (λ (r : Option RunAnswer). logIf r (taskOf g) (g .log)) (sym o);
+        result-is = ap (λ (r : Option Refusal). reportIf r (taskOf g)) (sym o);
+        status-is = ap (λ (r : Option Refusal). statusIf r (taskOf g) (g .status)) (sym o);
+        hints-are = ap (λ (r : Option Refusal). hintsIf r (taskOf g) (g .hints)) (sym o);
+        log-is = ap (λ (r : Option Refusal). logIf r (taskOf g) (g .log)) (sym o);
       }
 
   module _ (e : NotRefused ≡ found (refusalOf g)) where
@@ -76,23 +90,33 @@ module _ (g : Given) where
     pub log-len : length (take (logLength (g .vars)) (g .log)) ≡ logLength (length (take (g .vars) (g .status)))
     log-len = length-take-le (logLength (g .vars)) (g .log) (accepted .listed .lent .log-fits) ∙ ap logLength (sym status-len)
 
+    pub hints-len : length (take (g .vars) (g .hints)) ≡ length (take (g .vars) (g .status))
+    hints-len = length-take-le (g .vars) (g .hints) (accepted .listed .lent .hints-fit) ∙ sym status-len
+
     pub allowed : Allowed (limitsOf g)
     allowed = record { some = accepted .listed .lent .in-limits .limit-some; most = accepted .listed .lent .in-limits .limit-fits }
 
-    pub runs-accepted : {r : Report} {status log : List ℕ} → RunDone (task (g .entries) (length (take (g .vars) (g .status))) (limitsOf g)) r status log
-        → Runs g r (status ++ drop (g .vars) (g .status)) (log ++ drop (logLength (g .vars)) (g .log))
-    unfolding reportOf statusAfter logAfter
-    runs-accepted {r} {status} {log} w = go (rw status-len at w)
+    -- the fronts that were written, and what stood behind them
+    abbrev pub rejoined : List ℕ → List ℕ → List ℕ → Buffers
+    rejoined status hints log =
+        buffers (status ++ drop (g .vars) (g .status)) (hints ++ drop (g .vars) (g .hints)) (log ++ drop (logLength (g .vars)) (g .log))
+
+    pub runs-accepted : {r : Report} {first status hints log : List ℕ}
+        → HintsDone (g .entries) (length (take (g .vars) (g .status))) (limitsOf g) r first status hints log → Runs g r (rejoined status hints log)
+    unfolding reportOf statusAfter hintsAfter logAfter
+    runs-accepted {r} {first} {status} {hints} {log} w = let d = rw status-len at w in go (d .run-done .done) (d .hints-are)
       where
         o : refusalOf g ≡ none
         o = found-none (refusalOf g) e
 
-        go : RunDone (taskOf g) r status log → Runs g r (status ++ drop (g .vars) (g .status)) (log ++ drop (logLength (g .vars)) (g .log))
-        go w =
+        go : RunDone (taskOf g) r status log → hints ≡ hintsOf (taskOf g) → Runs g r (rejoined status hints log)
+        go w h =
             record {
-              result-is = w .result-is ∙ ap (λ (r : Option RunAnswer). reportIf r (taskOf g)) (sym o);
+              result-is = w .result-is ∙ ap (λ (r : Option Refusal). reportIf r (taskOf g)) (sym o);
               status-is = ap (λ (xs : List ℕ). xs ++ drop (g .vars) (g .status)) (w .status-is)
-                  ∙ ap (λ (r : Option RunAnswer). statusIf r (taskOf g) (g .status)) (sym o);
+                  ∙ ap (λ (r : Option Refusal). statusIf r (taskOf g) (g .status)) (sym o);
+              hints-are = ap (λ (xs : List ℕ). xs ++ drop (g .vars) (g .hints)) h
+                  ∙ ap (λ (r : Option Refusal). hintsIf r (taskOf g) (g .hints)) (sym o);
               log-is = ap (λ (xs : List ℕ). xs ++ drop (logLength (g .vars)) (g .log)) (w .log-is)
-                  ∙ ap (λ (r : Option RunAnswer). logIf r (taskOf g) (g .log)) (sym o);
+                  ∙ ap (λ (r : Option Refusal). logIf r (taskOf g) (g .log)) (sym o);
             }

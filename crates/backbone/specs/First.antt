@@ -9,6 +9,7 @@ use Rattle.rules.specs.Numbers.{maxClauses}
 use Rattle.rules.specs.Meaning.{Values, clauses}
 use Rattle.rules.specs.Search.{Call, model, callOn}
 use Rattle.rules.specs.Run.{Task, blank, firstCall, run}
+use Rattle.rules.specs.Hints.{hintsOf}
 use Rattle.rules.specs.Answer.{logLength}
 use Rattle.formula.specs.Starts.{startsOf}
 use Rattle.formula.specs.Formula.{Formula}
@@ -35,10 +36,11 @@ pub record Cleared (status log : List ℕ) : Type 0 where
 -- ---- what is required
 
 -- a list that no rule refuses, with room for the log, and limits that none does
-pub record ListTaken (es : List ℤ) (first : Values) (status log : List ℕ) (limits : Limits) : Type 0 where
+pub record ListTaken (es : List ℤ) (first : Values) (status hints log : List ℕ) (limits : Limits) : Type 0 where
   pub formula : Formula (length status) es (startsOf es)
   pub clauses-most : length (clauses es) ≤ maxClauses
   pub first-len : length first ≡ length status
+  pub hints-len : length hints ≡ length status
   pub log-len : length log ≡ logLength (length status)
   pub allowed : Allowed limits
 
@@ -49,7 +51,13 @@ pub record RunBegins (es : List ℤ) (starts : List ℕ) (first : Values) (statu
   pub cleared : Cleared status log
   pub allowed : Allowed limits
 
--- and with room for the values of its calls
+-- with no first model yet, and room for the hints
+pub record HintsBegin (es : List ℤ) (starts : List ℕ) (first : Values) (status hints log : List ℕ) (limits : Limits) : Type 0 where
+  pub begins : RunBegins es starts first status log limits
+  pub blank-first : first ≡ blank (length status)
+  pub hints-len : length hints ≡ length status
+
+-- a run that is to begin, with room for the values of its calls
 pub record CallsBegin (es : List ℤ) (starts : List ℕ) (values first : Values) (status log : List ℕ) (limits : Limits) : Type 0 where
   pub begins : RunBegins es starts first status log limits
   pub values-len : length values ≡ length status
@@ -76,3 +84,8 @@ pub record ListDone (es : List ℤ) (vars : ℕ) (limits : Limits) (first : Valu
     : Type 0 where
   pub done : RunDone (task es vars limits) result status log
   pub first-is : first-after ≡ valuesAfter (firstCall (task es vars limits)) first
+
+-- and with its hints, where no first model stood before
+pub record HintsDone (es : List ℤ) (vars : ℕ) (limits : Limits) (result : Report) (first-after : Values) (status hints log : List ℕ) : Type 0 where
+  pub run-done : ListDone es vars limits (blank vars) result first-after status log
+  pub hints-are : hints ≡ hintsOf (task es vars limits)

@@ -14,10 +14,12 @@ use rules::Report;
 use search::call::CallEnd;
 use search::call::go_on;
 use search::meter::Meter;
+use steps::hint::put_hints;
 ghost use mathlib.Core.Path.{_≡_};
 ghost use lib.ListN.{length};
 ghost use Rattle.formula.specs.Formula.{Formula};
-ghost use Rattle.backbone.specs.First.{FirstCalled, started, FirstFound, CallsBegin, RunBegins, ListTaken, ListDone};
+ghost use Rattle.backbone.specs.First.{FirstCalled, started, FirstFound, CallsBegin, RunBegins, ListDone};
+ghost use Rattle.backbone.specs.First.{HintsBegin, HintsDone, ListTaken};
 
 // The first call, from no value, on the formula alone.
 // Rules out: a call from the values that were there; one that starts with a try spent.
@@ -118,7 +120,7 @@ fn all_calls(
 
 // The run with room for the values of its calls.
 // Rules out: a first model that is not kept; a run over more variables than there are statuses.
-// Required of: accepted_run, with all variables open and no row.
+// Required of: with_hints, with all variables open and no row.
 fn room_for_values(
     entries: &[i32],
     starts: &[u16],
@@ -144,6 +146,27 @@ fn room_for_values(
     )
 }
 
+// The run, and then the hints, which are judged in its first model.
+// Rules out: hints judged in a later model; hints where there is no model.
+// Required of: accepted_run, with all variables open, no row and no first model yet.
+fn with_hints(
+    entries: &[i32],
+    starts: &[u16],
+    first: &mut [u8],
+    status: &mut [u8],
+    hints: &mut [u32],
+    log: &mut [u32],
+    limits: Limits,
+) -> Report
+    requires { ⌜ HintsBegin (now entries) (now starts) (now first) (now status) (now hints) (now log) limits ⌝ }
+    ensures { λ r. ⌜ HintsDone (now (entries .entry)) (length (now (status .entry))) limits
+        r (now (first .exit)) (now (status .exit)) (now (hints .exit)) (now (log .exit)) ⌝ }
+{
+    let report = room_for_values(entries, starts, first, status, log, limits);
+    put_hints(entries, starts, first, hints);
+    report
+}
+
 // The run of a list that no rule refuses: every variable open, no row, and where the clauses start, once for all calls. The first
 // model, if there is one, stands in `first` afterwards.
 // Rules out: statuses of an older run; rows of one.
@@ -152,16 +175,26 @@ pub fn accepted_run(
     entries: &[i32],
     first: &mut [u8],
     status: &mut [u8],
+    hints: &mut [u32],
     log: &mut [u32],
     limits: Limits,
 ) -> Report
-    requires { ⌜ ListTaken (now entries) (now first) (now status) (now log) limits ⌝ }
-    ensures { λ r. ⌜ ListDone (now (entries .entry)) (length (now (status .entry))) limits (now (first .entry))
-        r (now (first .exit)) (now (status .exit)) (now (log .exit)) ⌝ }
+    requires { ⌜ ListTaken (now entries) (now first) (now status) (now hints) (now log) limits ⌝ }
+    ensures { λ r. ⌜ HintsDone (now (entries .entry)) (length (now (status .entry))) limits
+        r (now (first .exit)) (now (status .exit)) (now (hints .exit)) (now (log .exit)) ⌝ }
 {
+    clear_bytes(first);
     clear_bytes(status);
     clear_numbers(log);
     let mut starts = [0u16; rules::MAX_CLAUSES as usize + 1];
     let count = find_starts(entries, &mut starts);
-    room_for_values(entries, &starts[..count + 1], first, status, log, limits)
+    with_hints(
+        entries,
+        &starts[..count + 1],
+        first,
+        status,
+        hints,
+        log,
+        limits,
+    )
 }

@@ -1,10 +1,10 @@
 // The backbone run: which literals every model contains, which variables are free (docs/RULES.md, "Run").
-ghost use Rattle.rules.specs.Answer.{given, Runs};
+ghost use Rattle.rules.specs.Answer.{given, buffers, Runs};
 
 mod first;
 
-// A run (docs/RULES.md, "Run" and "What comes back"): for each of the variables 1 to vars, whether it is forced or free, and a row for
-// each call. Every list, every pair of buffers and every limit is answered; what is refused writes nothing.
+// A run (docs/RULES.md, "Run" and "What comes back"): for each of the variables 1 to vars, whether it is forced or free and which clause holds
+// it, and a row for each call. Every list, all buffers and every limit are answered; what is refused writes nothing.
 // Rules out: an honest first call and the rest marked free; a stopped call logged as none.
 pub fn run(
     entries: &[i32],
@@ -12,27 +12,31 @@ pub fn run(
     budget: u32,
     chunk_limit: u32,
     status: &mut [u8],
+    hints: &mut [u32],
     log: &mut [u32],
 ) -> rules::Report
-    ensures { λ r. ⌜ Runs (given (now (entries .entry)) vars budget «chunk_limit» (now (status .entry)) (now (log .entry)))
-        r (now (status .exit)) (now (log .exit)) ⌝ }
+    ensures { λ r. ⌜ Runs (given (now (entries .entry)) vars budget «chunk_limit» (buffers (now (status .entry)) (now (hints .entry)) (now (log .entry))))
+        r (buffers (now (status .exit)) (now (hints .exit)) (now (log .exit))) ⌝ }
 {
-    let refusal = refusals::refuse(entries, vars, chunk_limit, status, log);
-    match refusal {
-        refusals::Refusal::Refused(answer) => rules::Report {
-            answer: answer,
+    let bad_limits = refusals::out_of_limits(vars, chunk_limit);
+    let short = refusals::too_short(vars, status.len(), hints.len(), log.len());
+    let checked = refusals::refuse(bad_limits, short, entries, vars);
+    match checked {
+        refusals::Checked::Refused(refusal) => rules::Report {
+            answer: rules::RunAnswer::Refused(refusal),
             calls: 0,
             tries: 0,
             forced: 0,
             free: 0,
         },
-        refusals::Refusal::Accepted => {
+        refusals::Checked::Accepted => {
             let n = vars as usize;
             let mut first = [0u8; rules::MAX_VARS as usize];
             first::accepted_run(
                 entries,
                 &mut first[..n],
                 &mut status[..n],
+                &mut hints[..n],
                 &mut log[..6 * (n + 1)],
                 calls::next::Limits {
                     budget: budget,

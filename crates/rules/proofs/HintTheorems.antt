@@ -3,6 +3,7 @@
 --   hint-zero, hint-some      in the first model: 0 exactly if the variable can be flipped, n exactly if clause n is the first that the flip
 --                             makes false
 --   forced-held               a literal that a run marks forced is the only true one of the clause that its hint names, in the first model
+--   first-model               what the first call finds is a model
 --   unhinted                  without a first model each hint is 0
 --
 -- Assumes nothing.
@@ -23,14 +24,14 @@ use Rattle.rules.specs.Meaning.{clauses, firstFalseFrom, firstFalse, Mod
 use Rattle.rules.specs.Models.{Forced}
 use Rattle.rules.specs.Search.{Call, model, no-model, stopped}
 use Rattle.rules.specs.Run.{Task, statusAt, isForcedTo, forcedBy, otherByte, flipped, blank, firstCall, onFirst, run}
-use Rattle.rules.specs.Hints.{flipBy, flipTest, mayFlip, hintNumber, hintsIn, hintsOf, clauseNo, OnlyTrue, HeldBy, FirstFalse}
-use Rattle.rules.proofs.ListLaws.{apart, never, not-true, any-sound, none-of-any, all-sound, in-getD}
+use Rattle.rules.specs.Hints.{flipBy, flipTest, mayFlip, hintNumber, hintAt, hintsIn, hintsOf, clauseNo, OnlyTrue, HeldBy, FirstFalse}
+use Rattle.rules.proofs.ListLaws.{apart, never, not-true, any-sound, none-of-any, all-sound, in-getD, getD-tabled}
 use Rattle.rules.proofs.ClauseLaws.{clauses-entries}
 use Rattle.rules.proofs.MeaningLaws.{set-cases, blank-proper}
 use Rattle.rules.proofs.SearchLaws.{callOn-model}
 use Rattle.rules.proofs.KnownLaws.{otherByte-valued, flipped-model}
 use Rattle.rules.proofs.RunTheorems.{forcedBy-le, indexOf-lt, blank-open, run-forced}
-use Rattle.rules.proofs.HintLaws.{canFlip-mayFlip, getD-hintsFrom}
+use Rattle.rules.proofs.HintLaws.{canFlip-mayFlip}
 
 -- ---- the first false clause
 
@@ -93,7 +94,7 @@ flipped-away m i j t f = go (set-cases m i (otherByte (valueAt m i)) (indexOf j)
 
 -- ---- the hints of a first model
 
-first-model : (k : Task) (m : Values) (t : ℕ) → firstCall k ≡ model m t → Model (k .vars) (k .formula) m
+pub first-model : (k : Task) (m : Values) (t : ℕ) → firstCall k ≡ model m t → Model (k .vars) (k .formula) m
 unfolding firstCall
 first-model k m t e =
     let w = callOn-model (k .budget) (k .formula) (blank (k .vars)) 0 m t (blank-proper (k .vars)) e in
@@ -103,8 +104,8 @@ module _ (k : Task) (m : Values) (t-first : ℕ) (e : firstCall k ≡ model m t-
   hint-is : getD (hintsOf k) i 0 ≡ hintNumber (flipTest (k .formula) m i)
   unfolding hintsOf
   hint-is =
-      ap (λ (c : Call). getD (hintsIn c k) i 0) e ∙ getD-hintsFrom (k .formula) m 0 (k .vars) i h ∙
-      ap (λ (j : ℕ). hintNumber (flipTest (k .formula) m j)) (omega arith)
+      ap (λ (c : Call). getD (hintsIn c k) i 0) e ∙ getD-tabled (hintAt (k .formula) m) 0 (k .vars) i h ∙
+      ap (hintAt (k .formula) m) (omega arith)
 
   judged : (o : Option ℕ) → firstFalse (flipped m i) (k .formula) ≡ o → getD (hintsOf k) i 0 ≡ hintNumber (flipBy o)
   judged o q = hint-is ∙ ap (λ (r : Option ℕ). hintNumber (flipBy r)) q

@@ -17,19 +17,21 @@
 --   in-map, map-in, in-take       elements of map and take
 --   eqz-sound, eqz-refl, eqz-complete, eqz-other     two whole numbers are the same
 --   eqs-sound, eqs-refl           two lists of numbers are the same
+--   length-tabled, getD-tabled, tabled-cong     the table of a function
 --
 -- Assumes nothing.
-use mathlib.Core.Path.{_≡_, refl, sym, _∙_, ap}
+use mathlib.Core.Path.{_≡_, refl, sym, _∙_, ap, ap₂}
 use mathlib.Core.Logic.{_≢_, _⊎_, inl, inr}
 use mathlib.Core.Bool.{Bool, true, false, true≢false, not, _&&_, _||_, or-true}
 use mathlib.Core.List.{List, [], _∷_, _++_, List·Memᴰ·head, List·Memᴰ·tail, List·Memᴰ·not-nil, map}
 use Prim.Native.Nat.{ℕ, zero, suc, _+_, _≤_, _<_}
 use native.Mathlib.Omega.{arith}
+use native.Mathlib.Nat.{add-zero, add-suc, suc-add}
 use lib.Dec.{eqb, leb}
 use lib.IntN.{ℤ, pos, negsuc}
 use lib.ListN.{length, getD, take}
 use borrow.Author.Tests.{eqb-true, eq-eqb, leb-true, leb-false}
-use Rattle.rules.specs.Lists.{In, any, all, keep, keepIf, count, countIf, sumOf, eqz, eqs}
+use Rattle.rules.specs.Lists.{In, any, all, keep, keepIf, count, countIf, sumOf, eqz, eqs, tabled}
 
 -- ---- tests
 
@@ -315,3 +317,19 @@ eqs-sound (x ∷ xs) (y ∷ ys) h =
 pub eqs-refl : (xs : List ℕ) → eqs xs xs ≡ true
 eqs-refl [] = refl
 eqs-refl (x ∷ xs) = rw (eq-eqb x x refl) (eqs-refl xs)
+
+-- ---- a table of a function
+
+pub length-tabled : (f : ℕ → ℕ) (i n : ℕ) → length (tabled f i n) ≡ n
+length-tabled f i zero = refl
+length-tabled f i (suc n) = ap suc (length-tabled f (suc i) n)
+
+pub getD-tabled : (f : ℕ → ℕ) (i n j : ℕ) → j < n → getD (tabled f i n) j 0 ≡ f (i + j)
+getD-tabled f i zero j h = absurd (omega arith)
+getD-tabled f i (suc n) zero h = rw add-zero
+getD-tabled f i (suc n) (suc j) h = rw (add-suc, ← suc-add) (getD-tabled f (suc i) n j (omega arith))
+
+pub tabled-cong : (f g : ℕ → ℕ) (i n : ℕ) → ((j : ℕ) → i ≤ j → j < i + n → f j ≡ g j) → tabled f i n ≡ tabled g i n
+tabled-cong f g i zero h = refl
+tabled-cong f g i (suc n) h =
+    ap₂ (λ (x : ℕ) (xs : List ℕ). x ∷ xs) (h i (omega arith) (omega arith)) (tabled-cong f g (suc i) n (λ j a b. h j (omega arith) (omega arith)))

@@ -1,13 +1,13 @@
 -- docs/RULES.md, "Which clause holds a switch": what the flip test answers, and the hints of a run. Assumes nothing.
 use mathlib.Core.Path.{_≡_}
 use mathlib.Core.Bool.{Bool, true, false}
-use mathlib.Core.List.{List, [], _∷_}
+use mathlib.Core.List.{List, []}
 use mathlib.Core.Option.{Option, none, some}
-use Prim.Native.Nat.{ℕ, zero, suc, pred, _≤_, _<_}
+use Prim.Native.Nat.{ℕ, pred, _≤_, _<_}
 use lib.IntN.{ℤ}
 use lib.ListN.{length, getD, replicate}
 use Rattle.rules.specs.declared.Flip.{Flip}
-use Rattle.rules.specs.Lists.{In}
+use Rattle.rules.specs.Lists.{In, tabled}
 use Rattle.rules.specs.Meaning.{Clause, Values, isTrue, hasTrue, firstFalse}
 use Rattle.rules.specs.Search.{Call, model, no-model, stopped}
 use Rattle.rules.specs.Run.{Task, flipped, firstCall}
@@ -30,14 +30,13 @@ abbrev pub hintNumber : Flip → ℕ
 hintNumber Flip.May = 0
 hintNumber (Flip.HeldBy n) = n .0
 
--- a hint for each of n variables, the first of them at index i
-abbrev pub hintsFrom : List Clause → Values → ℕ → ℕ → List ℕ
-hintsFrom F m i zero = []
-hintsFrom F m i (suc n) = hintNumber (flipTest F m i) ∷ hintsFrom F m (suc i) n
+-- the hint of the variable at index i, judged in a model
+abbrev pub hintAt : List Clause → Values → ℕ → ℕ
+hintAt F m i = hintNumber (flipTest F m i)
 
--- judged in the model that the first call found; 0 for each variable if it found none
+-- a hint for each variable, judged in the model that the first call found; 0 if it found none
 abbrev pub hintsIn : Call → Task → List ℕ
-hintsIn (model m t) k = hintsFrom (k .formula) m 0 (k .vars)
+hintsIn (model m t) k = tabled (hintAt (k .formula) m) 0 (k .vars)
 hintsIn (no-model t) k = replicate (k .vars) 0
 hintsIn (stopped t) k = replicate (k .vars) 0
 

@@ -100,3 +100,8 @@ eqs [] [] = true
 eqs [] (y ∷ ys) = false
 eqs (x ∷ xs) [] = false
 eqs (x ∷ xs) (y ∷ ys) = eqb x y && eqs xs ys
+
+-- f i, f (i + 1) and so on, n of them
+abbrev pub tabled : (ℕ → ℕ) → ℕ → ℕ → List ℕ
+tabled f i zero = []
+tabled f i (suc n) = f i ∷ tabled f (suc i) n

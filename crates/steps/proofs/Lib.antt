@@ -2,4 +2,5 @@
 pub mod FilterLaws
 pub mod ChunkLaws
 pub mod FlipLaws
+pub mod HintLaws
 pub mod ConstraintLaws

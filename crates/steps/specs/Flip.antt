@@ -1,18 +1,19 @@
 -- What flips do. Assumes nothing.
 use mathlib.Core.Path.{_≡_}
-use mathlib.Core.Bool.{Bool}
 use mathlib.Core.List.{List}
 use Prim.Native.Nat.{ℕ, pred, _≤_, _<_}
 use lib.IntN.{ℤ}
 use lib.ListN.{length}
+use Rattle.rules.specs.declared.Flip.{Flip}
 use Rattle.rules.specs.Meaning.{Clause, Values}
 use Rattle.rules.specs.Run.{canFlip}
+use Rattle.rules.specs.Hints.{flipTest}
 use Rattle.formula.specs.Formula.{Formula}
 use Rattle.steps.specs.Filter.{DropsAt, Drops}
 
--- whether the variable can be flipped; the model is what it was
-pub record CanFlip (F : List Clause) (v : ℕ) (before : Values) (result : Bool) (after : Values) : Type 0 where
-  pub result-is : result ≡ canFlip F before (pred v)
+-- what the flip test answers for a variable; the model is what it was
+pub record FlipTested (F : List Clause) (v : ℕ) (before : Values) (result : Flip) (after : Values) : Type 0 where
+  pub result-is : result ≡ flipTest F before (pred v)
   pub model-same : after ≡ before
 
 -- flips at one index: the statuses, and the model as it was
@@ -28,7 +29,7 @@ pub record Flips (F : List Clause) (m : Values) (before : List ℕ) (dropped : �
 -- ---- what is required
 
 -- to judge a flip: a formula over the model's variables, and one of these
-pub record CanFlipOver (es : List ℤ) (starts : List ℕ) (m : Values) (v : ℕ) : Type 0 where
+pub record FlipTestOver (es : List ℤ) (starts : List ℕ) (m : Values) (v : ℕ) : Type 0 where
   pub formula : Formula (length m) es starts
   pub some : 1 ≤ v
   pub most : v ≤ length m

@@ -2,5 +2,6 @@
 pub mod Filter
 pub mod Chunk
 pub mod Flip
+pub mod Hint
 pub mod Constraint
 pub mod Row

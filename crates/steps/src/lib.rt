@@ -1,6 +1,7 @@
-// The steps of a run that need no call (docs/RULES.md, "Run"): compare, flip, chunk, constraint, log row.
+// The steps of a run that need no call (docs/RULES.md, "Run"): compare, flip, hint, chunk, constraint, log row.
 pub mod chunk;
 pub mod compare;
 pub mod constraint;
 pub mod flip;
+pub mod hint;
 pub mod row;

@@ -1,6 +1,9 @@
 -- `first::accepted_run` meets its contract: what is cleared shows that nothing is known yet, and the starts are the list's.
 -- Assumes nothing.
+use mathlib.Core.Path.{sym, _∙_, ap}
+use Prim.Native.Nat.{ℕ}
 use native.Mathlib.Omega.{arith}
+use lib.ListN.{replicate}
 use borrow.Author.Needs.{needs}
 use Rattle.backbone.proofs.ListingLaws.{found-formula, cleared, front-len}
 use Rattle.backbone.proofs.first.accepted_run.Statement.{statement}
@@ -9,9 +12,12 @@ use Rattle.backbone.proofs.first.accepted_run.Tie as tie
 -- ---- the places: where the function starts, and behind its calls
 
 abbrev start : tie.After-clear-bytes → tie.Start
-start c = c .before .before .before .before .before
+start c = c .before .before .before .before .before .before
 
-abbrev bytes : tie.After-clear-numbers → tie.After-clear-bytes
+abbrev model : tie.After-clear-bytes2 → tie.After-clear-bytes
+model c = c .before .before .before .before
+
+abbrev bytes : tie.After-clear-numbers → tie.After-clear-bytes2
 bytes c = c .before .before .before .before
 
 abbrev numbers : tie.After-find-starts → tie.After-clear-numbers
@@ -21,6 +27,9 @@ numbers c = c .before .before .before .before
 
 clear-bytes-requires : tie.Need-clear-bytes-requires
 clear-bytes-requires c κs = search needs
+
+clear-bytes-requires-2 : tie.Need-clear-bytes-requires-2
+clear-bytes-requires-2 c κs = search needs
 
 clear-numbers-requires : tie.Need-clear-numbers-requires
 clear-numbers-requires c κs = search needs
@@ -37,25 +46,33 @@ add-starts c = search needs
 array-share-prefix-starts : tie.Need-array-share-prefix-starts
 array-share-prefix-starts c = search needs
 
-slice-aggregate-room-for-values : tie.Need-slice-aggregate-room-for-values
-slice-aggregate-room-for-values c =
+slice-aggregate-with-hints : tie.Need-slice-aggregate-with-hints
+slice-aggregate-with-hints c =
     let found = c .before .before in
-    let s = start (bytes (numbers found)) in
+    let s = start (model (bytes (numbers found))) in
     front-len _ _ (omega (arith, found .find-starts .ensures .count-is, s .pre .clauses-most, found .find-starts .kept .1 .0))
 
-room-for-values-requires : tie.Need-room-for-values-requires
-room-for-values-requires c κs =
-    let found = c .before .before .before .before .before in
+with-hints-requires : tie.Need-with-hints-requires
+with-hints-requires c κs =
+    let found = c .before .before .before .before .before .before in
     let numbers = numbers found in
     let bytes = bytes numbers in
-    let s = start bytes in
-    let len = bytes .clear-bytes .kept .0 in
+    let model = model bytes in
+    let s = start model in
+    let len = bytes .clear-bytes2 .kept .0 in
+    let first-len = s .pre .first-len ∙ sym len in
     record {
-      formula = rw len (found-formula (s .pre .formula) (found .find-starts .ensures));
-      first-len = rw len (s .pre .first-len);
-      cleared =
-          cleared (s .args .status .now) (s .args .log .now) (s .pre .log-len) len (bytes .clear-bytes .ensures) (numbers .clear-numbers .ensures);
-      allowed = s .pre .allowed;
+      begins =
+          record {
+            formula = rw len (found-formula (s .pre .formula) (found .find-starts .ensures));
+            first-len = model .clear-bytes .kept .0 ∙ first-len;
+            cleared =
+                cleared (s .args .status .now) (s .args .log .now) (s .pre .log-len) len (bytes .clear-bytes2 .ensures)
+                (numbers .clear-numbers .ensures);
+            allowed = s .pre .allowed;
+          };
+      blank-first = model .clear-bytes .ensures ∙ ap (λ (n : ℕ). replicate n 0) first-len;
+      hints-len = s .pre .hints-len ∙ sym len;
     }
 
 same-length : tie.Need-same-length
@@ -67,25 +84,30 @@ same-length-2 c = search needs
 same-length-3 : tie.Need-same-length-3
 same-length-3 c = search needs
 
+same-length-4 : tie.Need-same-length-4
+same-length-4 c = search needs
+
 returns : tie.Need-returns
 returns c =
-    let ran = c .before .before .before .before .before .before in
-    let bytes = bytes (numbers (ran .before .before .before .before .before .before)) in
-    rw (bytes .clear-bytes .kept .0) at (ran .room-for-values .ensures)
+    let ran = c .before .before .before .before .before .before .before .before in
+    let bytes = bytes (numbers (ran .before .before .before .before .before .before .before)) in
+    rw (bytes .clear-bytes2 .kept .0) at (ran .with-hints .ensures)
 
 pub accepted-run-spec : {M : Type 1} → statement M
 accepted-run-spec =
     tie.close
     (tie.spec
     clear-bytes-requires
+    clear-bytes-requires-2
     clear-numbers-requires
     slice-aggregate-find-starts
     find-starts-requires
     add-starts
     array-share-prefix-starts
-    slice-aggregate-room-for-values
-    room-for-values-requires
+    slice-aggregate-with-hints
+    with-hints-requires
     same-length
     same-length-2
     same-length-3
+    same-length-4
     returns)
