@@ -1,10 +1,8 @@
 // The lines of a table (docs/RULES.md, "The printed table"), each ended by LF.
 ghost use Prim.Native.Nat.{_+_, _≤_};
-ghost use lib.ListN.{length};
-ghost use Rattle.rules.specs.Numbers.{maxVars};
 ghost use Rattle.rules.specs.Printed.{refusedLine, answerLine, statusWords, statusLines};
 ghost use Rattle.buffers.specs.Put.{Put, Room};
-ghost use Rattle.lines.specs.Lines.{statusLine, countFields, endFields};
+ghost use Rattle.lines.specs.Lines.{statusLine, countFields, endFields, LinesOver};
 use buffers::put::put_byte;
 use buffers::put::put_decimal;
 use buffers::put::put_field;
@@ -61,12 +59,12 @@ pub fn put_answer(out: &mut [u8], at: usize, vars: u32, report: rules::Report) -
     put_ends(out, behind_counts, report.forced, report.free, opens)
 }
 
-// What a status byte says.
-// Rules out: on and off exchanged; open for free.
+// What a status byte says, and where it says forced the hint.
+// Rules out: on and off exchanged; a hint behind free.
 // Required of: put_variable, whose room is the whole line's.
-fn put_status(out: &mut [u8], at: usize, status: u8) -> usize
-    requires { ⌜ Room at (statusWords status) (now out) ⌝ }
-    ensures { λ r. ⌜ Put at (statusWords status) (now (out .entry)) r (now (out .exit)) ⌝ }
+fn put_status(out: &mut [u8], at: usize, status: u8, hint: u32) -> usize
+    requires { ⌜ Room at (statusWords status hint) (now out) ⌝ }
+    ensures { λ r. ⌜ Put at (statusWords status hint) (now (out .entry)) r (now (out .exit)) ⌝ }
 {
     if status == 0 {
         return put_word(out, at, b" open");
@@ -75,34 +73,40 @@ fn put_status(out: &mut [u8], at: usize, status: u8) -> usize
         return put_word(out, at, b" free");
     }
     if status == 2 {
-        return put_word(out, at, b" forced on");
+        return put_field(out, at, b" forced on held by clause ", hint as usize);
     }
-    put_word(out, at, b" forced off")
+    put_field(out, at, b" forced off held by clause ", hint as usize)
 }
 
 // The line of a variable.
 // Rules out: the number less one; a line without LF.
 // Required of: put_lines, whose room is that of all lines.
-fn put_variable(out: &mut [u8], at: usize, v: rules::Var, status: u8) -> usize
-    requires { ⌜ Room at (statusLine (v .0) status) (now out) ⌝ }
-    ensures { λ r. ⌜ Put at (statusLine (v .0) status) (now (out .entry)) r (now (out .exit)) ⌝ }
+fn put_variable(out: &mut [u8], at: usize, v: rules::Var, status: u8, hint: u32) -> usize
+    requires { ⌜ Room at (statusLine (v .0) status hint) (now out) ⌝ }
+    ensures { λ r. ⌜ Put at (statusLine (v .0) status hint) (now (out .entry)) r (now (out .exit)) ⌝ }
 {
     let behind_variable = put_decimal(out, at, v.0 as usize);
-    let behind_status = put_status(out, behind_variable, status);
+    let behind_status = put_status(out, behind_variable, status, hint);
     put_byte(out, behind_status, 10)
 }
 
 // A line for each variable.
 // Rules out: the last variable left out; lines numbered from 0.
 // Required of: printed::table::put_table, whose room is the whole table's.
-pub fn put_lines(out: &mut [u8], at: usize, status: &[u8]) -> usize
-    requires { ⌜ Room at (statusLines 1 (now status)) (now out) × (length (now status) ≤ maxVars) ⌝ }
-    ensures { λ r. ⌜ Put at (statusLines 1 (now (status .entry))) (now (out .entry)) r (now (out .exit)) ⌝ }
+pub fn put_lines(out: &mut [u8], at: usize, status: &[u8], hints: &[u32]) -> usize
+    requires { ⌜ LinesOver at (now status) (now hints) (now out) ⌝ }
+    ensures { λ r. ⌜ Put at (statusLines 1 (now (status .entry)) (now (hints .entry))) (now (out .entry)) r (now (out .exit)) ⌝ }
 {
     let mut next = at;
     let mut i: usize = 0;
     while i < status.len() {
-        next = put_variable(out, next, rules::Var(i as u32 + 1), status[i]);
+        next = put_variable(
+            out,
+            next,
+            rules::Var(i as u32 + 1),
+            status[i],
+            hints[i],
+        );
         i += 1;
     }
     next

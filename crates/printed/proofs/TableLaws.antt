@@ -5,11 +5,11 @@
 --   run-ready, run-table          what a run with buffers of just the size leaves, and its table
 --   read-list, read-line          what a reading leaves: an entry list, or the line of its refusal
 --   prints-short, prints-table    the contract, in a short buffer and in others
---   whole-room        a buffer of 4,096 bytes has room for every table
+--   whole-room        a buffer of 9,216 bytes has room for every table
 --   prints-le         how many bytes are put at most
 --
 -- Assumes nothing.
-use mathlib.Core.Path.{_≡_, refl, sym, _∙_, ap}
+use mathlib.Core.Path.{_≡_, refl, sym, _∙_, ap, ap₂}
 use mathlib.Core.Logic.{_≢_, inl, inr}
 use mathlib.Core.Bool.{Bool, true, false}
 use mathlib.Core.List.{List, [], _∷_, _++_, append-assoc}
@@ -28,7 +28,8 @@ use Rattle.rules.specs.Lists.{count, countIf}
 use Rattle.rules.specs.Numbers.{maxEntries, readNumber, readPlace, runNumber}
 use Rattle.rules.specs.Reading.{Judged, accepted, refused, judge, returned, readingOf, written, entriesAfter, Reads}
 use Rattle.rules.specs.Run.{run}
-use Rattle.rules.specs.Answer.{Given, given, taskOf, isFree, isForced, reportOfRun, reportOf, statusAfter, Runs}
+use Rattle.rules.specs.Hints.{hintsOf}
+use Rattle.rules.specs.Answer.{Given, Buffers, given, taskOf, isFree, isForced, reportOfRun, reportOf, statusAfter, hintsAfter, Runs}
 use Rattle.rules.specs.Refusals.{Refuses, short-buffer, long-text, no-header, bad-header, large-header}
 use Rattle.rules.specs.Refusals.{bad-token, token-behind, token-over-vars, many-tokens, short-text}
 use Rattle.rules.specs.RunRefusals.{Accepted}
@@ -36,7 +37,7 @@ use Rattle.rules.specs.Printed.{refusedLine, answerLine, statusLines, tableBy, 
 use Rattle.rules.specs.Printed.{tableBudget, tableChunk, tableOfJudged, tableOf, maxTable, countIfRoom, bytesIfRoom, Prints}
 use Rattle.rules.proofs.RunTheorems.{run-answer, run-statuses}
 use Rattle.rules.proofs.RefusedRuns.{run-accepted}
-use Rattle.rules.proofs.BufferTheorems.{length-statusAfter}
+use Rattle.rules.proofs.BufferTheorems.{length-statusAfter, length-hintsAfter}
 use Rattle.rules.proofs.RefusalLaws.{refusal-sound}
 use Rattle.rules.proofs.PrintedLaws.{table-runs}
 use Rattle.rules.proofs.TableLaws.{length-tableOf}
@@ -46,26 +47,26 @@ use Rattle.buffers.proofs.PutLaws.{putAt-front, room-first, room-same}
 
 -- ---- by the number of the answer
 
-pub table-first : (a : RunAnswer) (vars : ℕ) (r : Report) (ss : List ℕ) → Ran a → runNumber a ≡ 20 → tableBy a vars r ss ≡ answerLine vars r
-table-first a vars r ss (inl e) h = absurd (omega (arith, ap runNumber e, h))
-table-first a vars r ss (inr (inl e)) h = ap (λ (b : RunAnswer). tableBy b vars r ss) e
-table-first a vars r ss (inr (inr e)) h = absurd (omega (arith, ap runNumber e, h))
+pub table-first : (a : RunAnswer) (vars : ℕ) (r : Report) (ss hs : List ℕ) → Ran a → runNumber a ≡ 20 → tableBy a vars r ss hs ≡ answerLine vars r
+table-first a vars r ss hs (inl e) h = absurd (omega (arith, ap runNumber e, h))
+table-first a vars r ss hs (inr (inl e)) h = ap (λ (b : RunAnswer). tableBy b vars r ss hs) e
+table-first a vars r ss hs (inr (inr e)) h = absurd (omega (arith, ap runNumber e, h))
 
-pub table-lines : (a : RunAnswer) (vars : ℕ) (r : Report) (ss : List ℕ) → Ran a
-    → runNumber a ≢ 20 → tableBy a vars r ss ≡ answerLine vars r ++ statusLines 1 ss
-table-lines a vars r ss (inl e) h = ap (λ (b : RunAnswer). tableBy b vars r ss) e
-table-lines a vars r ss (inr (inl e)) h = absurd (h (ap runNumber e))
-table-lines a vars r ss (inr (inr e)) h = ap (λ (b : RunAnswer). tableBy b vars r ss) e
+pub table-lines : (a : RunAnswer) (vars : ℕ) (r : Report) (ss hs : List ℕ) → Ran a
+    → runNumber a ≢ 20 → tableBy a vars r ss hs ≡ answerLine vars r ++ statusLines 1 ss hs
+table-lines a vars r ss hs (inl e) h = ap (λ (b : RunAnswer). tableBy b vars r ss hs) e
+table-lines a vars r ss hs (inr (inl e)) h = absurd (h (ap runNumber e))
+table-lines a vars r ss hs (inr (inr e)) h = ap (λ (b : RunAnswer). tableBy b vars r ss hs) e
 
-pub table-room : {vars : ℕ} {r : Report} {ss out : List ℕ} → TableReady vars r ss out → Room 0 (answerLine vars r) out
-table-room {vars} {r} {ss} {out} w = go (w .ended)
+pub table-room : {vars : ℕ} {r : Report} {ss hs out : List ℕ} → TableReady vars r ss hs out → Room 0 (answerLine vars r) out
+table-room {vars} {r} {ss} {hs} {out} w = go (w .ended)
   where
     go : Ran (r .answer) → Room 0 (answerLine vars r) out
     go (inl e) =
-        room-first (answerLine vars r) (statusLines 1 ss) (room-same (ap (λ (b : RunAnswer). tableBy b vars r ss) e) (w .room))
-    go (inr (inl e)) = room-same (ap (λ (b : RunAnswer). tableBy b vars r ss) e) (w .room)
+        room-first (answerLine vars r) (statusLines 1 ss hs) (room-same (ap (λ (b : RunAnswer). tableBy b vars r ss hs) e) (w .room))
+    go (inr (inl e)) = room-same (ap (λ (b : RunAnswer). tableBy b vars r ss hs) e) (w .room)
     go (inr (inr e)) =
-        room-first (answerLine vars r) (statusLines 1 ss) (room-same (ap (λ (b : RunAnswer). tableBy b vars r ss) e) (w .room))
+        room-first (answerLine vars r) (statusLines 1 ss hs) (room-same (ap (λ (b : RunAnswer). tableBy b vars r ss hs) e) (w .room))
 
 -- ---- the run
 
@@ -81,7 +82,7 @@ count-both (s ∷ ss) = go (leb 2 s) (eqb s 1) refl refl (count-both ss)
     go false true e f ih = omega (arith, ih)
     go false false e f ih = omega (arith, ih)
 
--- what an accepted run returns, and what it leaves in a status buffer of just the size
+-- what an accepted run returns, and what it leaves in buffers of just the size
 run-report : (g : Given) → Accepted g → reportOf g ≡ reportOfRun (run (taskOf g))
 unfolding reportOf
 run-report g w = rw (run-accepted g .1 w)
@@ -92,10 +93,15 @@ run-status g w e =
     rw (run-accepted g .1 w)
     (ap (λ (xs : List ℕ). run (taskOf g) .progress .statuses ++ xs) (drop-of-length-le (g .status) {i = g .vars} (omega (arith, e))))
 
-module _ {vars : ℕ} {es : List ℤ} {status log : List ℕ} (w : Accepted (listGiven vars es)) (z : Sized vars status log) where
+run-hints : (g : Given) → Accepted g → length (g .hints) ≡ g .vars → hintsAfter g ≡ hintsOf (taskOf g) ++ []
+unfolding hintsAfter
+run-hints g w e =
+    rw (run-accepted g .1 w) (ap (λ (xs : List ℕ). hintsOf (taskOf g) ++ xs) (drop-of-length-le (g .hints) {i = g .vars} (omega (arith, e))))
+
+module _ {vars : ℕ} {es : List ℤ} {room : Buffers} (w : Accepted (listGiven vars es)) (z : Sized vars room) where
   -- the run with these buffers
   abbrev lent : Given
-  lent = given es vars tableBudget tableChunk status log
+  lent = given es vars tableBudget tableChunk room
 
   lent-accepted : Accepted lent
   lent-accepted =
@@ -105,6 +111,7 @@ module _ {vars : ℕ} {es : List ℤ} {status log : List ℕ} (w : Accepted (lis
           lent = record {
             in-limits = record { vars-fit = l .lent .in-limits .vars-fit; limit-some = omega arith; limit-fits = omega arith };
             status-fits = omega (arith, z .status-len);
+            hints-fit = omega (arith, z .hints-len);
             log-fits = omega (arith, z .log-len);
           };
           entries-fit = l .entries-fit;
@@ -122,16 +129,21 @@ module _ {vars : ℕ} {es : List ℤ} {status log : List ℕ} (w : Accepted (lis
       run-status lent lent-accepted (z .status-len) ∙
       sym (run-status (listGiven vars es) w (length-replicate {A = ℕ} vars 0))
 
-  module _ {r : Report} {status′ log′ : List ℕ} (d : Runs lent r status′ log′) where
-    pub run-table : tableOfRun vars r status′ ≡ tableOfList vars es
+  same-hints : hintsAfter lent ≡ hintsAfter (listGiven vars es)
+  same-hints =
+      run-hints lent lent-accepted (z .hints-len) ∙
+      sym (run-hints (listGiven vars es) w (length-replicate {A = ℕ} vars 0))
+
+  module _ {r : Report} {left : Buffers} (d : Runs lent r left) where
+    pub run-table : tableOfRun vars r (left .status) (left .hints) ≡ tableOfList vars es
     run-table =
-        ap (λ (q : Report). tableOfRun vars q status′) (d .result-is ∙ same-report) ∙
-        ap (tableOfRun vars (reportOf (listGiven vars es))) (d .status-is ∙ same-status)
+        ap (λ (q : Report). tableOfRun vars q (left .status) (left .hints)) (d .result-is ∙ same-report) ∙
+        ap₂ (tableOfRun vars (reportOf (listGiven vars es))) (d .status-is ∙ same-status) (d .hints-are ∙ same-hints)
 
     report-is : r ≡ reportOfRun (run (taskOf (listGiven vars es)))
     report-is = d .result-is ∙ same-report ∙ run-report (listGiven vars es) w
 
-    pub run-ready : {out : List ℕ} → Room 0 (tableOfList vars es) out → TableReady vars r status′ out
+    pub run-ready : {out : List ℕ} → Room 0 (tableOfList vars es) out → TableReady vars r (left .status) (left .hints) out
     run-ready {out} m =
         let k = taskOf (listGiven vars es) in
         let some : 1 ≤ 16 = omega arith in
@@ -139,6 +151,16 @@ module _ {vars : ℕ} {es : List ℤ} {status log : List ℕ} (w : Accepted (lis
           ended = rw report-is (run-answer k some);
           counted = rw report-is (omega (arith, count-both (run k .progress .statuses), run-statuses k some .0));
           vars-fit = omega (arith, ap length (d .status-is), length-statusAfter lent lent-accepted, z .status-len, w .listed .lent .in-limits .vars-fit);
+          hints-fit =
+              omega (
+                arith,
+                ap length (d .status-is),
+                length-statusAfter lent lent-accepted,
+                z .status-len,
+                ap length (d .hints-are),
+                length-hintsAfter lent lent-accepted,
+                z .hints-len,
+              );
           room = room-same (sym run-table) m;
         }
 

@@ -10,7 +10,7 @@ use Rattle.rules.specs.declared.Report.{Report}
 use Rattle.rules.specs.Numbers.{maxVars}
 use Rattle.rules.specs.Text.{Sizes}
 use Rattle.rules.specs.Reading.{accepted, entriesAfter}
-use Rattle.rules.specs.Answer.{Given, logLength, statusAfter, logAfter}
+use Rattle.rules.specs.Answer.{Given, Buffers, logLength, statusAfter, hintsAfter, logAfter}
 use Rattle.rules.specs.RunRefusals.{Accepted}
 use Rattle.rules.specs.Printed.{tableOfRun, tableGiven, tableOfJudged, tableOf}
 use Rattle.buffers.specs.Put.{Room, Put}
@@ -32,26 +32,29 @@ pub record ListReady (vars : ℕ) (es : List ℤ) (out : List ℕ) : Type 0 wher
   pub room : Room 0 (tableOfList vars es) out
 
 -- buffers of just the size
-pub record Sized (vars : ℕ) (status log : List ℕ) : Type 0 where
-  pub status-len : length status ≡ vars
-  pub log-len : length log ≡ logLength vars
+pub record Sized (vars : ℕ) (lent : Buffers) : Type 0 where
+  pub status-len : length (lent .status) ≡ vars
+  pub hints-len : length (lent .hints) ≡ vars
+  pub log-len : length (lent .log) ≡ logLength vars
 
 -- the run was not refused
 abbrev pub Ran : RunAnswer → Type 0
 Ran a = (a ≡ RunAnswer.Settled) ⊎ ((a ≡ RunAnswer.NoModel) ⊎ (a ≡ RunAnswer.Stopped))
 
--- a run that is over, its statuses, and room for its table
-pub record TableReady (vars : ℕ) (r : Report) (ss out : List ℕ) : Type 0 where
+-- a run that is over, its statuses and hints, and room for its table
+pub record TableReady (vars : ℕ) (r : Report) (ss hs out : List ℕ) : Type 0 where
   pub ended : Ran (r .answer)
   pub counted : r .forced + r .free ≤ vars
   pub vars-fit : length ss ≤ maxVars
-  pub room : Room 0 (tableOfRun vars r ss) out
+  pub hints-fit : length ss ≤ length hs
+  pub room : Room 0 (tableOfRun vars r ss hs) out
 
--- the table of a list is put, and both buffers are as its run leaves them
-pub record RunPut (g : Given) (before : List ℕ) (next : ℕ) (status log after : List ℕ) : Type 0 where
+-- the table of a list is put, and the buffers are as its run leaves them
+pub record RunPut (g : Given) (before : List ℕ) (next : ℕ) (left : Buffers) (after : List ℕ) : Type 0 where
   pub put : Put 0 (tableOfList (g .vars) (g .entries)) before next after
-  pub status-is : status ≡ statusAfter g
-  pub log-is : log ≡ logAfter g
+  pub status-is : left .status ≡ statusAfter g
+  pub hints-are : left .hints ≡ hintsAfter g
+  pub log-is : left .log ≡ logAfter g
 
 -- the table of a text is put, and the entries are as its reading leaves them
 pub record TextPut (text : List ℕ) (entries : List ℤ) (before : List ℕ) (next : ℕ) (read : List ℤ) (after : List ℕ) : Type 0 where

@@ -2,7 +2,7 @@
 ghost use mathlib.Core.Path.{_≡_};
 ghost use lib.ListN.{length};
 ghost use Rattle.rules.specs.Numbers.{maxEntries};
-ghost use Rattle.rules.specs.Answer.{given};
+ghost use Rattle.rules.specs.Answer.{given, buffers};
 ghost use Rattle.rules.specs.Printed.{tableOf, tableOfRun, tableBudget, tableChunk};
 ghost use Rattle.buffers.specs.Put.{Put, Room};
 ghost use Rattle.printed.specs.Table.{tableOfList, ListReady, Sized, TableReady, RunPut, TextPut};
@@ -18,9 +18,9 @@ use rules::numbers::run_number;
 // The answer line, and a line for each variable. After 20 there is no model and nothing to say of a variable.
 // Rules out: the lines of the variables after 20; none of them after 21.
 // Required of: put_run, for a run that is not refused.
-fn put_table(out: &mut [u8], vars: u32, report: rules::Report, status: &[u8]) -> usize
-    requires { ⌜ TableReady vars report (now status) (now out) ⌝ }
-    ensures { λ r. ⌜ Put 0 (tableOfRun vars report (now (status .entry))) (now (out .entry)) r (now (out .exit)) ⌝ }
+fn put_table(out: &mut [u8], vars: u32, report: rules::Report, status: &[u8], hints: &[u32]) -> usize
+    requires { ⌜ TableReady vars report (now status) (now hints) (now out) ⌝ }
+    ensures { λ r. ⌜ Put 0 (tableOfRun vars report (now (status .entry)) (now (hints .entry))) (now (out .entry)) r (now (out .exit)) ⌝ }
 {
     let answer = report.answer;
     let number = run_number(answer);
@@ -28,19 +28,26 @@ fn put_table(out: &mut [u8], vars: u32, report: rules::Report, status: &[u8]) ->
     if number == 20 {
         return next;
     }
-    put_lines(out, next, status)
+    put_lines(out, next, status, hints)
 }
 
 // The run of an entry list with buffers of just the size, budget 1,000,000 and chunk limit 16, and its table.
 // Rules out: the table under another budget; that under another chunk limit.
 // Required of: put_list, with buffers of just the size.
-fn put_run(out: &mut [u8], entries: &[i32], vars: u32, status: &mut [u8], log: &mut [u32]) -> usize
-    requires { ⌜ ListReady vars (now entries) (now out) × Sized vars (now status) (now log) ⌝ }
-    ensures { λ r. ⌜ RunPut (given (now (entries .entry)) vars tableBudget tableChunk (now (status .entry)) (now (log .entry)))
-        (now (out .entry)) r (now (status .exit)) (now (log .exit)) (now (out .exit)) ⌝ }
+fn put_run(
+    out: &mut [u8],
+    entries: &[i32],
+    vars: u32,
+    status: &mut [u8],
+    hints: &mut [u32],
+    log: &mut [u32],
+) -> usize
+    requires { ⌜ ListReady vars (now entries) (now out) × Sized vars (buffers (now status) (now hints) (now log)) ⌝ }
+    ensures { λ r. ⌜ RunPut (given (now (entries .entry)) vars tableBudget tableChunk (buffers (now (status .entry)) (now (hints .entry)) (now (log .entry))))
+        (now (out .entry)) r (buffers (now (status .exit)) (now (hints .exit)) (now (log .exit))) (now (out .exit)) ⌝ }
 {
-    let report = backbone::run(entries, vars, TABLE_BUDGET, TABLE_CHUNK, status, log);
-    put_table(out, vars, report, status)
+    let report = backbone::run(entries, vars, TABLE_BUDGET, TABLE_CHUNK, status, hints, log);
+    put_table(out, vars, report, status, hints)
 }
 
 // The table of an entry list: the buffers are made here, for up to 256 variables.
@@ -52,12 +59,14 @@ fn put_list(out: &mut [u8], entries: &[i32], vars: u32) -> usize
 {
     let n = vars as usize;
     let mut status = [0u8; rules::MAX_VARS as usize];
+    let mut hints = [0u32; rules::MAX_VARS as usize];
     let mut log = [0u32; rules::MAX_LOG];
     put_run(
         out,
         entries,
         vars,
         &mut status[..n],
+        &mut hints[..n],
         &mut log[..6 * (n + 1)],
     )
 }

@@ -1,6 +1,7 @@
 -- `line::put_lines` meets its contract. The invariant of its loop: the first i lines are put, and with the others behind them all
 -- are. The measure is what is left of the statuses. Assumes nothing.
 use Prim.Native.Nat.{_-_}
+use native.Mathlib.Omega.{arith}
 use borrow.Author.Needs.{needs}
 use lib.ListN.{length}
 use Rattle.lines.proofs.LineLaws.{Lining, lining-start, lining-room, lining-step, lining-done}
@@ -8,27 +9,35 @@ use Rattle.lines.proofs.line.put_lines.Statement.{statement}
 use Rattle.lines.proofs.line.put_lines.Tie as tie
 
 abbrev Inv-loop : tie.InvT-loop
-Inv-loop out₀ at status next₀ i₀ out next i = Lining status at out₀ i next out
+Inv-loop out₀ at status hints next₀ i₀ out next i = Lining status hints at out₀ i next out
 
 abbrev μ-loop : tie.MeasureT-loop
-μ-loop out₀ at status next₀ i₀ out next i = length status - i
+μ-loop out₀ at status hints next₀ i₀ out next i = length status - i
 
 loop-holds : tie.Need-loop-holds Inv-loop μ-loop
-loop-holds c = lining-start (c .before .before .pre .0)
+loop-holds c = lining-start (c .before .before .before .pre .room)
 
-cast-t10 : tie.Need-cast-t10 Inv-loop μ-loop
-cast-t10 c = search needs
+cast-t11 : tie.Need-cast-t11 Inv-loop μ-loop
+cast-t11 c = search needs
 
-add-t11 : tie.Need-add-t11 Inv-loop μ-loop
-add-t11 c = search needs
+add-t12 : tie.Need-add-t12 Inv-loop μ-loop
+add-t12 c = search needs
 
 shared-slice-read-put-variable : tie.Need-shared-slice-read-put-variable Inv-loop μ-loop
 shared-slice-read-put-variable c = search needs
 
+mul-put-variable : tie.Need-mul-put-variable Inv-loop μ-loop
+mul-put-variable c = search needs
+
+shared-slice-read-put-variable-2 : tie.Need-shared-slice-read-put-variable-2 Inv-loop μ-loop
+shared-slice-read-put-variable-2 c =
+    let turn = c .before .before .before in
+    omega (arith, turn .loop-test .taken, turn .before .before .before .before .before .pre .hints-fit)
+
 put-variable-requires : tie.Need-put-variable-requires Inv-loop μ-loop
 put-variable-requires c κs =
-    let turn = c .before .before in
-    lining-room 0 (turn .before .loop .inv) (turn .loop-test .taken)
+    let turn = c .before .before .before in
+    lining-room (turn .before .loop .inv) (turn .loop-test .taken)
 
 add-i : tie.Need-add-i Inv-loop μ-loop
 add-i c = search needs
@@ -39,8 +48,8 @@ loop-less c = search needs
 loop-again : tie.Need-loop-again Inv-loop μ-loop
 loop-again c =
     let put = c .before .before in
-    let turn = put .before .before .before in
-    lining-step 0 (turn .before .loop .inv) (turn .loop-test .taken) (put .put-variable .ensures)
+    let turn = put .before .before .before .before in
+    lining-step (turn .before .loop .inv) (turn .loop-test .taken) (put .put-variable .ensures)
 
 same-length : tie.Need-same-length Inv-loop μ-loop
 same-length c = c .before .loop .inv .len
@@ -55,9 +64,11 @@ put-lines-spec =
     Inv-loop
     μ-loop
     loop-holds
-    cast-t10
-    add-t11
+    cast-t11
+    add-t12
     shared-slice-read-put-variable
+    mul-put-variable
+    shared-slice-read-put-variable-2
     put-variable-requires
     add-i
     loop-less

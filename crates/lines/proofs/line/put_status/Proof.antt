@@ -1,5 +1,6 @@
 -- `line::put_status` meets its contract: each test picks the words of its status. Assumes nothing.
-use mathlib.Core.Path.{sym, ap}
+use mathlib.Core.Path.{_≡_, sym, ap}
+use Prim.Native.Nat.{ℕ}
 use native.Mathlib.Omega.{arith}
 use borrow.Author.Needs.{needs}
 use Rattle.rules.specs.Printed.{statusWords}
@@ -8,50 +9,66 @@ use Rattle.lines.proofs.LineLaws.{words-off}
 use Rattle.lines.proofs.line.put_status.Statement.{statement}
 use Rattle.lines.proofs.line.put_status.Tie as tie
 
+-- the words of a status that is known
+words : (s : tie.Start) {n : ℕ} → s .args .status ≡ n → statusWords (s .args .status) (s .args .hint) ≡ statusWords n (s .args .hint)
+words s e = ap (λ (t : ℕ). statusWords t (s .args .hint)) e
+
 slice-aggregate-put-word : tie.Need-slice-aggregate-put-word
 slice-aggregate-put-word c = search needs
 
 put-word-requires : tie.Need-put-word-requires
-put-word-requires c κs = room-same (ap statusWords (c .before .before .if1 .taken)) (c .before .before .before .before .pre)
+put-word-requires c κs =
+    let s = c .before .before .before .before in
+    room-same (words s (c .before .before .if1 .taken)) (s .pre)
 
 same-length : tie.Need-same-length
 same-length c = search needs
 
 returns : tie.Need-returns
-returns c = put-same (sym (ap statusWords (c .before .before .before .before .before .if1 .taken))) (c .before .before .put-word .ensures)
+returns c =
+    let then-1 = c .before .before .before .before .before in
+    put-same (sym (words (then-1 .before .before) (then-1 .if1 .taken))) (c .before .before .put-word .ensures)
 
 slice-aggregate-put-word-2 : tie.Need-slice-aggregate-put-word-2
 slice-aggregate-put-word-2 c = search needs
 
 put-word-requires-2 : tie.Need-put-word-requires-2
-put-word-requires-2 c κs = room-same (ap statusWords (c .before .before .if2 .taken)) (c .before .before .before .before .before .pre)
+put-word-requires-2 c κs =
+    let s = c .before .before .before .before .before in
+    room-same (words s (c .before .before .if2 .taken)) (s .pre)
 
 same-length-2 : tie.Need-same-length-2
 same-length-2 c = search needs
 
 returns-2 : tie.Need-returns-2
-returns-2 c = put-same (sym (ap statusWords (c .before .before .before .before .before .if2 .taken))) (c .before .before .put-word2 .ensures)
+returns-2 c =
+    let then-2 = c .before .before .before .before .before in
+    put-same (sym (words (then-2 .before .before .before) (then-2 .if2 .taken))) (c .before .before .put-word2 .ensures)
 
-slice-aggregate-put-word-3 : tie.Need-slice-aggregate-put-word-3
-slice-aggregate-put-word-3 c = search needs
+slice-aggregate-put-field : tie.Need-slice-aggregate-put-field
+slice-aggregate-put-field c = search needs
 
-put-word-requires-3 : tie.Need-put-word-requires-3
-put-word-requires-3 c κs = room-same (ap statusWords (c .before .before .if3 .taken)) (c .before .before .before .before .before .before .pre)
+put-field-requires : tie.Need-put-field-requires
+put-field-requires c κs =
+    let s = c .before .before .before .before .before .before in
+    room-same (words s (c .before .before .if3 .taken)) (s .pre)
 
 same-length-3 : tie.Need-same-length-3
 same-length-3 c = search needs
 
 returns-3 : tie.Need-returns-3
-returns-3 c = put-same (sym (ap statusWords (c .before .before .before .before .before .if3 .taken))) (c .before .before .put-word3 .ensures)
+returns-3 c =
+    let then-3 = c .before .before .before .before .before in
+    put-same (sym (words (then-3 .before .before .before .before) (then-3 .if3 .taken))) (c .before .before .put-field .ensures)
 
-slice-aggregate-put-word-4 : tie.Need-slice-aggregate-put-word-4
-slice-aggregate-put-word-4 c = search needs
+slice-aggregate-put-field-2 : tie.Need-slice-aggregate-put-field-2
+slice-aggregate-put-field-2 c = search needs
 
-put-word-requires-4 : tie.Need-put-word-requires-4
-put-word-requires-4 c κs =
+put-field-requires-2 : tie.Need-put-field-requires-2
+put-field-requires-2 c κs =
     let other = c .before .before in
     let s = other .before .before .before .before in
-    room-same (words-off (s .args .status) (omega (arith, other .if3 .left, other .before .if2 .left, other .before .before .if1 .left))) (s .pre)
+    room-same (words-off (s .args .status) (s .args .hint) (omega (arith, other .if3 .left, other .before .if2 .left, other .before .before .if1 .left))) (s .pre)
 
 same-length-4 : tie.Need-same-length-4
 same-length-4 c = search needs
@@ -61,8 +78,8 @@ returns-4 c =
     let put = c .before .before in
     let other = put .before .before .before in
     let s = other .before .before .before .before in
-    put-same (sym (words-off (s .args .status) (omega (arith, other .if3 .left, other .before .if2 .left, other .before .before .if1 .left))))
-    (put .put-word4 .ensures)
+    put-same (sym (words-off (s .args .status) (s .args .hint) (omega (arith, other .if3 .left, other .before .if2 .left, other .before .before .if1 .left))))
+    (put .put-field2 .ensures)
 
 pub put-status-spec : {M : Type 1} → statement M
 put-status-spec =
@@ -76,11 +93,11 @@ put-status-spec =
     put-word-requires-2
     same-length-2
     returns-2
-    slice-aggregate-put-word-3
-    put-word-requires-3
+    slice-aggregate-put-field
+    put-field-requires
     same-length-3
     returns-3
-    slice-aggregate-put-word-4
-    put-word-requires-4
+    slice-aggregate-put-field-2
+    put-field-requires-2
     same-length-4
     returns-4)

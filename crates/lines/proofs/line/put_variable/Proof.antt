@@ -14,24 +14,24 @@ cast-put-decimal c = search needs
 put-decimal-requires : tie.Need-put-decimal-requires
 put-decimal-requires c κs =
     let s = c .before .before .before in
-    room-first (decimal (s .args .v .0)) (statusWords (s .args .status) ++ 10 ∷ []) (s .pre)
+    room-first (decimal (s .args .v .0)) (statusWords (s .args .status) (s .args .hint) ++ 10 ∷ []) (s .pre)
 
 -- the room that the number leaves
 behind-variable : (c : tie.After-put-decimal)
-    → Room (c .put-decimal .result) (statusWords (c .before .before .before .before .args .status) ++ 10 ∷ []) (c .put-decimal .last .0)
+    → Room (c .put-decimal .result) (statusWords (c .before .before .before .before .args .status) (c .before .before .before .before .args .hint) ++ 10 ∷ []) (c .put-decimal .last .0)
 behind-variable c =
     let s = c .before .before .before .before in
-    room-then (decimal (s .args .v .0)) (statusWords (s .args .status) ++ 10 ∷ []) (s .pre) (c .put-decimal .ensures)
+    room-then (decimal (s .args .v .0)) (statusWords (s .args .status) (s .args .hint) ++ 10 ∷ []) (s .pre) (c .put-decimal .ensures)
 
 put-status-requires : tie.Need-put-status-requires
 put-status-requires c κs =
-    room-first (statusWords (c .before .before .before .before .before .before .before .args .status)) (10 ∷ []) (behind-variable (c .before .before .before))
+    room-first (statusWords (c .before .before .before .before .before .before .before .args .status) (c .before .before .before .before .before .before .before .args .hint)) (10 ∷ []) (behind-variable (c .before .before .before))
 
 put-byte-requires : tie.Need-put-byte-requires
 put-byte-requires c κs =
     let said = c .before .before .before in
     let number = said .before .before .before .before in
-    room-then (statusWords (number .before .before .before .before .args .status)) (10 ∷ []) (behind-variable number) (said .put-status .ensures)
+    room-then (statusWords (number .before .before .before .before .args .status) (number .before .before .before .before .args .hint)) (10 ∷ []) (behind-variable number) (said .put-status .ensures)
 
 same-length : tie.Need-same-length
 same-length c = search needs

@@ -5,13 +5,16 @@ use Rattle.printed.proofs.TableLaws.{run-ready, run-table}
 use Rattle.printed.proofs.table.put_run.Statement.{statement}
 use Rattle.printed.proofs.table.put_run.Tie as tie
 
+abbrev start : tie.After-run → tie.Start
+start c = c .before .before .before .before .before .before .before .before
+
 run-requires : tie.Need-run-requires
 run-requires c κs = search needs
 
 put-table-requires : tie.Need-put-table-requires
 put-table-requires c κs =
-    let ran = c .before .before .before .before .before .before in
-    let s = ran .before .before .before .before .before .before in
+    let ran = c .before .before .before .before .before .before .before .before .before in
+    let s = start ran in
     run-ready (s .pre .0 .runs) (s .pre .1) (ran .run .ensures) (s .pre .0 .room)
 
 same-length : tie.Need-same-length
@@ -23,18 +26,22 @@ same-length-2 c = search needs
 same-length-3 : tie.Need-same-length-3
 same-length-3 c = search needs
 
+same-length-4 : tie.Need-same-length-4
+same-length-4 c = search needs
+
 returns : tie.Need-returns
 returns c =
     let put = c .before .before in
-    let ran = put .before .before .before .before .before .before .before in
-    let s = ran .before .before .before .before .before .before in
+    let ran = put .before .before .before .before .before .before .before .before .before .before in
+    let s = start ran in
     record {
       put = put-same (run-table (s .pre .0 .runs) (s .pre .1) (ran .run .ensures)) (put .put-table .ensures);
       status-is = ran .run .ensures .status-is;
+      hints-are = ran .run .ensures .hints-are;
       log-is = ran .run .ensures .log-is;
     }
 
 pub put-run-spec : {M : Type 1} → statement M
 put-run-spec =
     tie.close
-    (tie.spec run-requires put-table-requires same-length same-length-2 same-length-3 returns)
+    (tie.spec run-requires put-table-requires same-length same-length-2 same-length-3 same-length-4 returns)

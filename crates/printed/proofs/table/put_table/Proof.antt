@@ -13,7 +13,7 @@ run-number-requires : tie.Need-run-number-requires
 run-number-requires c κs = search needs
 
 put-answer-requires : tie.Need-put-answer-requires
-put-answer-requires c κs = let s = c .before .before .before .before in (table-room (s .pre), s .pre .counted)
+put-answer-requires c κs = let s = c .before .before .before .before .before in (table-room (s .pre), s .pre .counted)
 
 same-length : tie.Need-same-length
 same-length c = search needs
@@ -22,29 +22,33 @@ returns : tie.Need-returns
 returns c =
     let first = c .before .before .before in
     let number = first .before .before in
-    let s = number .before .before .before in
+    let s = number .before .before .before .before in
     let r = s .args .report in
     put-same
-    (sym (table-first (r .answer) (s .args .vars) r (s .args .status .now) (s .pre .ended) (sym (number .run-number .ensures) ∙ c .if1 .taken)))
+    (sym (table-first (r .answer) (s .args .vars) r (s .args .status .now) (s .args .hints .now) (s .pre .ended) (sym (number .run-number .ensures) ∙ c .if1 .taken)))
     (first .put-answer .ensures)
 
 -- the table, after 0 and 21
 whole : (c : tie.Else1)
-    → let a = c .before .before .before .before .before .before .before .before .args in
-    tableOfRun (a .vars) (a .report) (a .status .now) ≡ answerLine (a .vars) (a .report) ++ statusLines 1 (a .status .now)
+    → let a = c .before .before .before .before .before .before .before .before .before .args in
+    tableOfRun (a .vars) (a .report) (a .status .now) (a .hints .now) ≡ answerLine (a .vars) (a .report) ++ statusLines 1 (a .status .now) (a .hints .now)
 whole c =
     let number = c .before .before .before .before .before in
-    let s = number .before .before .before in
+    let s = number .before .before .before .before in
     let r = s .args .report in
-    table-lines (r .answer) (s .args .vars) r (s .args .status .now) (s .pre .ended) (λ e. omega (arith, number .run-number .ensures, c .if1 .left, e))
+    table-lines (r .answer) (s .args .vars) r (s .args .status .now) (s .args .hints .now) (s .pre .ended) (λ e. omega (arith, number .run-number .ensures, c .if1 .left, e))
 
 put-lines-requires : tie.Need-put-lines-requires
 put-lines-requires c κs =
     let first = c .before .before .before .before in
-    let s = first .before .before .before .before .before in
+    let s = first .before .before .before .before .before .before in
     let a = s .args in
     let room = room-same (whole (c .before)) (s .pre .room) in
-    (room-then (answerLine (a .vars) (a .report)) (statusLines 1 (a .status .now)) room (first .put-answer .ensures), s .pre .vars-fit)
+    record {
+      room = room-then (answerLine (a .vars) (a .report)) (statusLines 1 (a .status .now) (a .hints .now)) room (first .put-answer .ensures);
+      vars-fit = s .pre .vars-fit;
+      hints-fit = s .pre .hints-fit;
+    }
 
 same-length-2 : tie.Need-same-length-2
 same-length-2 c = search needs
