@@ -11,11 +11,12 @@ use native.Mathlib.Omega.{arith}
 use lib.IntN.{ℤ, pos}
 use lib.ListN.{length, length-append}
 use Rattle.rules.specs.declared.Reading.{Reading}
+use Rattle.rules.specs.declared.Refusal.{Refusal}
 use Rattle.rules.specs.declared.RunAnswer.{RunAnswer}
 use Rattle.rules.specs.declared.Report.{Report}
-use Rattle.rules.specs.Numbers.{maxEntries, runPlace}
+use Rattle.rules.specs.Numbers.{maxEntries, refusalPlace, runPlace}
 use Rattle.rules.specs.Reading.{Judged, accepted, refused, judge, returned, readingOf, Reads}
-use Rattle.rules.specs.Answer.{Given, refusalOf, taskOf, reportIf, reportOf, Runs}
+use Rattle.rules.specs.Answer.{Given, Buffers, refusalOf, taskOf, reportIf, reportOf, Runs}
 use Rattle.rules.specs.RunRefusals.{RunRefuses, bad-limits, short-buffer, list-long, not-ended, zero-over, entry-over-vars}
 use Rattle.rules.proofs.RefusalLaws.{refusal-sound}
 use Rattle.rules.proofs.PlaceLaws.{refuses-place}
@@ -43,7 +44,7 @@ reads-fit {text = text} {before = before} {r = r} d = go (judge (length before) 
 
 -- ---- a run
 
-refused-place : {g : Given} {a : RunAnswer} → RunRefuses g a → runPlace a ≤ maxEntries
+refused-place : {g : Given} {a : Refusal} → RunRefuses g a → refusalPlace a ≤ maxEntries
 refused-place (bad-limits h) = omega arith
 refused-place (short-buffer w h) = omega arith
 refused-place (list-long w h) = omega arith
@@ -56,14 +57,14 @@ ended-place (inl h) = rw h (omega arith)
 ended-place (inr (inl h)) = rw h (omega arith)
 ended-place (inr (inr h)) = rw h (omega arith)
 
-report-is : {g : Given} {r : Report} {status log : List ℕ} → Runs g r status log → r ≡ reportIf (refusalOf g) (taskOf g)
+report-is : {g : Given} {r : Report} {after : Buffers} → Runs g r after → r ≡ reportIf (refusalOf g) (taskOf g)
 unfolding reportOf
 report-is d = d .result-is
 
-pub runs-fit : {g : Given} {r : Report} {status log : List ℕ} → Runs g r status log → runPlace (r .answer) ≤ maxEntries
+pub runs-fit : {g : Given} {r : Report} {after : Buffers} → Runs g r after → runPlace (r .answer) ≤ maxEntries
 runs-fit {g = g} {r = r} d = go (refusalOf g) refl (report-is d)
   where
-    go : (o : Option RunAnswer) → refusalOf g ≡ o → r ≡ reportIf o (taskOf g) → runPlace (r .answer) ≤ maxEntries
+    go : (o : Option Refusal) → refusalOf g ≡ o → r ≡ reportIf o (taskOf g) → runPlace (r .answer) ≤ maxEntries
     go (some a) q e = rw e (refused-place (run-refused g a .0 q))
     go none q e =
         rw e (ended-place (run-answer (taskOf g) (run-accepted g .0 q .listed .lent .in-limits .limit-some)))
@@ -74,5 +75,6 @@ pub reads-in : {text : List ℕ} {before after : List ℤ} {r : Reading} {n : Ig
     → Reads text before r after → n ≡ readingNumbers r → ReadsIn text before n after
 reads-in d e = record { result-is = e ∙ ap readingNumbers (d .result-is); after-is = d .after-is }
 
-pub runs-in : {g : Given} {r : Report} {status log : List ℕ} {n : IgbReport} → Runs g r status log → n ≡ reportNumbers r → RunsIn g n status log
-runs-in d e = record { result-is = e ∙ ap reportNumbers (d .result-is); status-is = d .status-is; log-is = d .log-is }
+pub runs-in : {g : Given} {r : Report} {after : Buffers} {n : IgbReport} → Runs g r after → n ≡ reportNumbers r → RunsIn g n after
+runs-in d e =
+    record { result-is = e ∙ ap reportNumbers (d .result-is); status-is = d .status-is; hints-are = d .hints-are; log-is = d .log-is }

@@ -8,10 +8,10 @@
 --   read-exactly                     answer 0 exactly if the text is one of the grammar and there is room
 --   read-card card-runs              a text that is accepted: its clauses stand in the buffer, and their run is not refused for them
 --   answered refused-exactly         igb_run: 0, 20 or 21 exactly if no rule refuses; each refusal number and place exactly
---   nothing-written rest-stays       a refused run writes nothing; what stands behind table and rows always stays
+--   nothing-written rest-stays       a refused run writes nothing; what stands behind table, hints and rows always stays
 --   settled-forced settled-free settled-none-open settled-same     after 0
 --   no-model-exactly no-model-table  20
---   forced-sound free-witness calls-most tries-most counted logged     after 0, 20 and 21 alike
+--   forced-sound free-witness forced-held hints-none calls-most tries-most counted logged     after 0, 20 and 21 alike
 --
 -- Assumes nothing.
 use mathlib.Core.Path.{_≡_, refl, sym, _∙_, ap}
@@ -22,25 +22,28 @@ use Prim.Native.Nat.{ℕ, zero, suc, _+_, _-_, _≤_, _<_}
 use native.Mathlib.Omega.{arith}
 use lib.Dec.{eqb}
 use lib.IntN.{ℤ, pos}
-use lib.ListN.{length, take, drop, replicate}
+use lib.ListN.{length, getD, take, drop, replicate}
 use lib.Seq.{take-append-seam}
 use Rattle.rules.specs.declared.ReadAnswer.{ReadAnswer}
 use Rattle.rules.specs.declared.Reading.{Reading}
+use Rattle.rules.specs.declared.Refusal.{Refusal}
 use Rattle.rules.specs.declared.RunAnswer.{RunAnswer}
 use Rattle.rules.specs.declared.Report.{Report}
-use Rattle.rules.specs.Numbers.{maxEntries, readNumber, readPlace, runNumber, runPlace}
+use Rattle.rules.specs.Numbers.{maxEntries, readNumber, readPlace, refusalNumber, refusalPlace, runNumber, runPlace}
 use Rattle.rules.specs.Text.{Sizes}
 use Rattle.rules.specs.Reading.{readingOf, Reads}
 use Rattle.rules.specs.Grammar.{Dimacs}
 use Rattle.rules.specs.Refusals.{Refuses}
-use Rattle.rules.specs.Meaning.{LitUpTo, clauses}
+use Rattle.rules.specs.Meaning.{Values, LitUpTo, indexOf, clauses}
+use Rattle.rules.specs.Search.{model}
 use Rattle.rules.specs.Models.{NoModel, Forced, Free, WitnessOf}
 use Rattle.rules.specs.Lists.{count}
-use Rattle.rules.specs.Run.{Row, statusAt, isForcedTo}
-use Rattle.rules.specs.Answer.{Given, given, logLength, taskOf, reportOf, logOfRows, isFree, isForced, Runs}
+use Rattle.rules.specs.Run.{Row, statusAt, isForcedTo, firstCall}
+use Rattle.rules.specs.Hints.{HeldBy}
+use Rattle.rules.specs.Answer.{Given, Buffers, given, logLength, taskOf, reportOf, logOfRows, isFree, isForced, Runs}
 use Rattle.rules.specs.RunRefusals.{Lent, Accepted, RunRefuses}
 use Rattle.rules.specs.Log.{LogOf}
-use Rattle.rules.proofs.ListLaws.{both, never, not-true}
+use Rattle.rules.proofs.ListLaws.{both, never}
 use Rattle.rules.proofs.Theorems as theorems
 use Rattle.rules.proofs.ReadingTheorems.{read-accepts, read-accepted}
 use Rattle.rules.proofs.TextTheorems.{dimacs-runs}
@@ -54,9 +57,6 @@ use Rattle.igbezolum.specs.Linked.{readingNumbers, reportNumbers, ReadsI
 pub reads-in-unique : {text : List ℕ} {before : List ℤ} {n m : IgbReading} {b c : List ℤ}
     → ReadsIn text before n b → ReadsIn text before m c → (n ≡ m) × (b ≡ c)
 reads-in-unique d e = (d .result-is ∙ sym (e .result-is), d .after-is ∙ sym (e .after-is))
-
-pub runs-in-unique : {g : Given} {n m : IgbReport} {s t l k : List ℕ} → RunsIn g n s l → RunsIn g m t k → (n ≡ m) × (s ≡ t) × (l ≡ k)
-runs-in-unique d e = (d .result-is ∙ sym (e .result-is), d .status-is ∙ sym (e .status-is), d .log-is ∙ sym (e .log-is))
 
 -- ---- the answer of a number and a place; a number that no answer has stands for the last one
 
@@ -85,24 +85,28 @@ readAnswer-numbers (ReadAnswer.TokenOverVars at) = refl
 readAnswer-numbers (ReadAnswer.ManyTokens at) = refl
 readAnswer-numbers (ReadAnswer.ShortText at) = refl
 
+abbrev pub refusalOfNumber : ℕ → ℕ → Refusal
+refusalOfNumber n at =
+    cond (eqb n 1) Refusal.ShortBuffer
+    (cond (eqb n 10) Refusal.BadLimits
+    (cond (eqb n 11) (Refusal.BadList at)
+    (Refusal.EntryOverVars at)))
+
 abbrev pub runAnswer : ℕ → ℕ → RunAnswer
 runAnswer n at =
     cond (eqb n 0) RunAnswer.Settled
-    (cond (eqb n 1) RunAnswer.ShortBuffer
-    (cond (eqb n 10) RunAnswer.BadLimits
-    (cond (eqb n 11) (RunAnswer.BadList at)
-    (cond (eqb n 12) (RunAnswer.EntryOverVars at)
     (cond (eqb n 20) RunAnswer.NoModel
-    RunAnswer.Stopped)))))
+    (cond (eqb n 21) RunAnswer.Stopped
+    (RunAnswer.Refused (refusalOfNumber n at))))
 
 runAnswer-numbers : (a : RunAnswer) → runAnswer (runNumber a) (runPlace a) ≡ a
 runAnswer-numbers RunAnswer.Settled = refl
-runAnswer-numbers RunAnswer.ShortBuffer = refl
-runAnswer-numbers RunAnswer.BadLimits = refl
-runAnswer-numbers (RunAnswer.BadList at) = refl
-runAnswer-numbers (RunAnswer.EntryOverVars at) = refl
 runAnswer-numbers RunAnswer.NoModel = refl
 runAnswer-numbers RunAnswer.Stopped = refl
+runAnswer-numbers (RunAnswer.Refused Refusal.ShortBuffer) = refl
+runAnswer-numbers (RunAnswer.Refused Refusal.BadLimits) = refl
+runAnswer-numbers (RunAnswer.Refused (Refusal.BadList at)) = refl
+runAnswer-numbers (RunAnswer.Refused (Refusal.EntryOverVars at)) = refl
 
 -- ---- and so the promise below
 
@@ -137,9 +141,17 @@ pub reads-back : {text : List ℕ} {before after : List ℤ} {n : IgbReading} �
 reads-back {text = text} {before = before} d =
     record { result-is = ap readingFrom (d .result-is) ∙ reading-back (readingOf text before); after-is = d .after-is }
 
-pub runs-back : {g : Given} {n : IgbReport} {status log : List ℕ} → RunsIn g n status log → Runs g (reportFrom n) status log
+pub runs-back : {g : Given} {n : IgbReport} {after : Buffers} → RunsIn g n after → Runs g (reportFrom n) after
 runs-back {g = g} d =
-    record { result-is = ap reportFrom (d .result-is) ∙ report-back (reportOf g); status-is = d .status-is; log-is = d .log-is }
+    record {
+      result-is = ap reportFrom (d .result-is) ∙ report-back (reportOf g);
+      status-is = d .status-is;
+      hints-are = d .hints-are;
+      log-is = d .log-is;
+    }
+
+pub runs-in-unique : {g : Given} {n m : IgbReport} {b c : Buffers} → RunsIn g n b → RunsIn g m c → (n ≡ m) × (b ≡ c)
+runs-in-unique d e = (d .result-is ∙ sym (e .result-is), theorems.runs-unique (runs-back d) (runs-back e) .1)
 
 -- ---- a text that is refused
 
@@ -214,11 +226,11 @@ module _ {text : List ℕ} {before after : List ℤ} {n : IgbReading} (w : Reads
   read-room = read-accepted text before is-accepted .0
 
   -- with buffers that are long enough and limits that are allowed the run of what was read is not refused
-  pub card-runs : (budget limit : ℕ) (status log : List ℕ) → Lent (given (take (n .count) after) (n .vars) budget limit status log)
-      → Accepted (given (take (n .count) after) (n .vars) budget limit status log)
-  card-runs budget limit status log l =
+  pub card-runs : (budget limit : ℕ) (lent : Buffers) → Lent (given (take (n .count) after) (n .vars) budget limit lent)
+      → Accepted (given (take (n .count) after) (n .vars) budget limit lent)
+  card-runs budget limit lent l =
       let c = read-card in
-      dimacs-runs (given (take (n .count) after) (n .vars) budget limit status log) (rw (← c .stands) at (c .derived)) l
+      dimacs-runs (given (take (n .count) after) (n .vars) budget limit lent) (rw (← c .stands) at (c .derived)) l
 
 -- 0 is answered exactly if there is room and the text is one of the grammar
 pub read-exactly : {text : List ℕ} {before after : List ℤ} {n : IgbReading} → ReadsIn text before n after
@@ -239,13 +251,10 @@ answered-number : (a : RunAnswer) → run.isAnswered a ≡ true → (runNumber a
 answered-number RunAnswer.Settled e = inl refl
 answered-number RunAnswer.NoModel e = inr (inl refl)
 answered-number RunAnswer.Stopped e = inr (inr refl)
-answered-number RunAnswer.ShortBuffer e = absurd (never e refl)
-answered-number RunAnswer.BadLimits e = absurd (never e refl)
-answered-number (RunAnswer.BadList at) e = absurd (never e refl)
-answered-number (RunAnswer.EntryOverVars at) e = absurd (never e refl)
+answered-number (RunAnswer.Refused a) e = absurd (never e refl)
 
-module _ {g : Given} {n : IgbReport} {status log : List ℕ} (w : RunsIn g n status log) where
-  below : Runs g (reportFrom n) status log
+module _ {g : Given} {n : IgbReport} {after : Buffers} (w : RunsIn g n after) where
+  below : Runs g (reportFrom n) after
   below = runs-back w
 
   answer-of : (k : ℕ) → n .answer ≡ k → reportFrom n .answer ≡ runAnswer k (n .place)
@@ -268,28 +277,46 @@ module _ {g : Given} {n : IgbReport} {status log : List ℕ} (w : RunsIn g n sta
       (λ a. run.answered below .0 (answered-so a), λ h. rw number-is (answered-number (reportFrom n .answer) (run.answered below .1 h)))
 
   -- each refusal number and place exactly when its rule says so
-  pub refused-exactly : (a : RunAnswer) → run.isAnswered a ≡ false → ((n .answer ≡ runNumber a) × (n .place ≡ runPlace a)) ↔ RunRefuses g a
-  refused-exactly a f =
-      let exactly = run.refused-exactly below a f in
-      (λ e. exactly .0 (cc (e .0, e .1) ∙ runAnswer-numbers a), λ h. let q = exactly .1 h in (number-is ∙ ap runNumber q, place-is ∙ ap runPlace q))
+  pub refused-exactly : (a : Refusal) → ((n .answer ≡ refusalNumber a) × (n .place ≡ refusalPlace a)) ↔ RunRefuses g a
+  refused-exactly a =
+      let exactly = run.refused-exactly below a in (
+        λ e. exactly .0 (cc (e .0, e .1) ∙ runAnswer-numbers (RunAnswer.Refused a)),
+        λ h. let q = exactly .1 h in (number-is ∙ ap runNumber q, place-is ∙ ap runPlace q),
+      )
+
+  -- the refusal of a run that was not answered with 0, 20 or 21
+  refused-by : (Answered n → ⊥) → (a : Refusal) × RunRefuses g a
+  refused-by ne = go (reportFrom n .answer) refl
+    where
+      go : (a : RunAnswer) → reportFrom n .answer ≡ a → (b : Refusal) × RunRefuses g b
+      go RunAnswer.Settled q = absurd (ne (answered .1 (run.answered below .0 (ap run.isAnswered q))))
+      go RunAnswer.NoModel q = absurd (ne (answered .1 (run.answered below .0 (ap run.isAnswered q))))
+      go RunAnswer.Stopped q = absurd (ne (answered .1 (run.answered below .0 (ap run.isAnswered q))))
+      go (RunAnswer.Refused b) q = (b, run.refused-exactly below b .0 q)
 
   -- a refused run returns zero counts and writes nothing
-  pub nothing-written : (Answered n → ⊥) → (n .calls ≡ 0) × (n .tries ≡ 0) × (n .forced ≡ 0) × (n .free ≡ 0) × (status ≡ g .status) × (log ≡ g .log)
+  pub nothing-written : (Answered n → ⊥) → (n .calls ≡ 0) × (n .tries ≡ 0) × (n .forced ≡ 0) × (n .free ≡ 0)
+      × (after .status ≡ g .status) × (after .hints ≡ g .hints) × (after .log ≡ g .log)
   nothing-written ne =
-      let f : run.isAnswered (reportFrom n .answer) ≡ false = not-true _ (λ t. ne (answered .1 (run.answered below .0 t))) in
-      let (r, s, l) = run.nothing-written below (reportFrom n .answer) (run.refused-exactly below (reportFrom n .answer) f .0 refl) in
-      (ap (λ (q : Report). q .calls) r, ap (λ (q : Report). q .tries) r, ap (λ (q : Report). q .forced) r, ap (λ (q : Report). q .free) r, s, l)
+      let (a, h) = refused-by ne in
+      let (r, s, m, l) = run.nothing-written below a h in
+      (ap (λ (q : Report). q .calls) r, ap (λ (q : Report). q .tries) r, ap (λ (q : Report). q .forced) r, ap (λ (q : Report). q .free) r, s, m, l)
 
-  -- what stands behind the table and the rows stays, whatever is answered
-  pub rest-stays : (drop (g .vars) status ≡ drop (g .vars) (g .status)) × (drop (logLength (g .vars)) log ≡ drop (logLength (g .vars)) (g .log))
+  -- what stands behind the table, the hints and the rows stays, whatever is answered
+  abbrev RestStays : Type 0
+  RestStays = (drop (g .vars) (after .status) ≡ drop (g .vars) (g .status))
+      × (drop (g .vars) (after .hints) ≡ drop (g .vars) (g .hints))
+      × (drop (logLength (g .vars)) (after .log) ≡ drop (logLength (g .vars)) (g .log))
+
+  pub rest-stays : RestStays
   rest-stays = go (both (run.isAnswered (reportFrom n .answer)))
     where
-      go : (run.isAnswered (reportFrom n .answer) ≡ true) ⊎ (run.isAnswered (reportFrom n .answer) ≡ false)
-          → (drop (g .vars) status ≡ drop (g .vars) (g .status)) × (drop (logLength (g .vars)) log ≡ drop (logLength (g .vars)) (g .log))
+      go : (run.isAnswered (reportFrom n .answer) ≡ true) ⊎ (run.isAnswered (reportFrom n .answer) ≡ false) → RestStays
       go (inl t) = run.rest-stays below (run.answered below .0 t)
       go (inr f) =
-          let (r, s, l) = run.nothing-written below (reportFrom n .answer) (run.refused-exactly below (reportFrom n .answer) f .0 refl) in
-          (ap (drop (g .vars)) s, ap (drop (logLength (g .vars))) l)
+          let (a, h) = refused-by (λ x. never (answered-so x) f) in
+          let (r, s, m, l) = run.nothing-written below a h in
+          (ap (drop (g .vars)) s, ap (drop (g .vars)) m, ap (drop (logLength (g .vars))) l)
 
   -- ---- a settled run
 
@@ -298,15 +325,15 @@ module _ {g : Given} {n : IgbReport} {status log : List ℕ} (w : RunsIn g n sta
 
   -- after 0 a literal is marked forced exactly if a model exists and all models contain it
   pub settled-forced : n .answer ≡ 0 → (l : ℤ) → LitUpTo (g .vars) l
-      → isForcedTo (take (g .vars) status) l ↔ Forced (g .vars) (clauses (g .entries)) l
+      → isForcedTo (take (g .vars) (after .status)) l ↔ Forced (g .vars) (clauses (g .entries)) l
   settled-forced e = run.settled-forced below (settled-accepted e) (answer-of 0 e)
 
   -- a variable is marked free exactly if two models differ on it
-  pub settled-free : n .answer ≡ 0 → (i : ℕ) → i < g .vars → (statusAt (take (g .vars) status) i ≡ 1) ↔ Free (g .vars) (clauses (g .entries)) i
+  pub settled-free : n .answer ≡ 0 → (i : ℕ) → i < g .vars → (statusAt (take (g .vars) (after .status)) i ≡ 1) ↔ Free (g .vars) (clauses (g .entries)) i
   settled-free e = run.settled-free below (settled-accepted e) (answer-of 0 e)
 
   -- and none is open
-  pub settled-none-open : n .answer ≡ 0 → (i : ℕ) → statusAt (take (g .vars) status) i ≢ 0
+  pub settled-none-open : n .answer ≡ 0 → (i : ℕ) → statusAt (take (g .vars) (after .status)) i ≢ 0
   settled-none-open e = run.settled-none-open below (settled-accepted e) (answer-of 0 e)
 
   -- ---- no model
@@ -318,20 +345,30 @@ module _ {g : Given} {n : IgbReport} {status log : List ℕ} (w : RunsIn g n sta
       (λ e. exactly .0 (answer-of 20 e), λ m. number-is ∙ ap runNumber (exactly .1 m))
 
   -- after 20 all variables are open, and the log has one row
-  pub no-model-table : n .answer ≡ 20 → (take (g .vars) status ≡ replicate (g .vars) 0) × (n .calls ≡ 1)
+  pub no-model-table : n .answer ≡ 20 → (take (g .vars) (after .status) ≡ replicate (g .vars) 0) × (n .calls ≡ 1)
   no-model-table e = run.no-model-table below (answered .0 (inr (inl e))) (answer-of 20 e)
 
   -- ---- however it was answered, with 0, 20 or 21
 
   module _ (a : Answered n) where
     -- a literal marked forced is in all models, and there is one
-    pub forced-sound : (l : ℤ) → LitUpTo (g .vars) l → isForcedTo (take (g .vars) status) l → Forced (g .vars) (clauses (g .entries)) l
+    pub forced-sound : (l : ℤ) → LitUpTo (g .vars) l → isForcedTo (take (g .vars) (after .status)) l → Forced (g .vars) (clauses (g .entries)) l
     forced-sound = run.forced-sound below (answered .0 a)
 
     -- a variable marked free has its witness against the run's first model
-    pub free-witness : (i : ℕ) → i < g .vars → statusAt (take (g .vars) status) i ≡ 1
+    pub free-witness : (i : ℕ) → i < g .vars → statusAt (take (g .vars) (after .status)) i ≡ 1
         → WitnessOf (g .vars) (clauses (g .entries)) (Rattle.rules.specs.Run.run (taskOf g) .progress .models) i
     free-witness = run.free-witness below (answered .0 a)
+
+    -- a literal marked forced has a hint, and in the first model it is the only true literal of the clause with that number
+    pub forced-held : (l : ℤ) → LitUpTo (g .vars) l → isForcedTo (take (g .vars) (after .status)) l
+        → (m : Values) × (t : ℕ) × (firstCall (taskOf g) ≡ model m t)
+        × HeldBy (clauses (g .entries)) m l (getD (take (g .vars) (after .hints)) (indexOf l) 0)
+    forced-held = run.forced-held below (answered .0 a)
+
+    -- each hint is 0 if no first model was found
+    pub hints-none : ((m : Values) (t : ℕ) → firstCall (taskOf g) ≡ model m t → ⊥) → take (g .vars) (after .hints) ≡ replicate (g .vars) 0
+    hints-none = run.hints-none below (answered .0 a)
 
     pub calls-most : n .calls ≤ g .vars + 1
     calls-most = run.calls-most below (answered .0 a)
@@ -341,21 +378,20 @@ module _ {g : Given} {n : IgbReport} {status log : List ℕ} (w : RunsIn g n sta
     tries-most = let (m, f) = run.tries-most below (answered .0 a) in (m, λ e. f (answer-of 21 e))
 
     -- the numbers forced and free are those of the table
-    pub counted : (n .forced ≡ count isForced (take (g .vars) status)) × (n .free ≡ count isFree (take (g .vars) status))
+    pub counted : (n .forced ≡ count isForced (take (g .vars) (after .status))) × (n .free ≡ count isFree (take (g .vars) (after .status)))
     counted = run.counted below (answered .0 a)
 
     -- the log has a row for each call begun, and zeros behind; its rows are numbered from 1, each call after the first that finds a
     -- model frees at least one variable, each that finds none forces at least one, and the columns add up to what is returned
     pub logged : (rows : List Row)
-        × (take (logLength (g .vars)) log ≡ logOfRows (g .vars) rows)
+        × (take (logLength (g .vars)) (after .log) ≡ logOfRows (g .vars) rows)
         × (length rows ≡ n .calls)
         × LogOf rows (n .free) (n .forced) (n .tries)
     logged = run.logged below (answered .0 a)
 
 -- budget and chunk limit never change a settled status
-pub settled-same : {es : List ℤ} {vars : ℕ} (budget limit budget′ limit′ : ℕ) {st lg st′ lg′ status log status′ log′ : List ℕ} {n n′ : IgbReport}
-    → RunsIn (given es vars budget limit st lg) n status log
-    → RunsIn (given es vars budget′ limit′ st′ lg′) n′ status′ log′
-    → n .answer ≡ 0 → n′ .answer ≡ 0 → take vars status ≡ take vars status′
+pub settled-same : {es : List ℤ} {vars : ℕ} (budget limit budget′ limit′ : ℕ) {lent lent′ after after′ : Buffers} {n n′ : IgbReport}
+    → RunsIn (given es vars budget limit lent) n after → RunsIn (given es vars budget′ limit′ lent′) n′ after′
+    → n .answer ≡ 0 → n′ .answer ≡ 0 → take vars (after .status) ≡ take vars (after′ .status)
 settled-same budget limit budget′ limit′ w v e f =
     run.settled-same budget limit budget′ limit′ (runs-back w) (runs-back v) (settled-accepted w e) (settled-accepted v f) (answer-of w 0 e) (answer-of v 0 f)

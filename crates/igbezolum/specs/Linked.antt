@@ -8,7 +8,7 @@ use Rattle.rules.specs.declared.Reading.{Reading}
 use Rattle.rules.specs.declared.Report.{Report}
 use Rattle.rules.specs.Numbers.{maxText, maxEntries, readNumber, readPlace, runNumber, runPlace}
 use Rattle.rules.specs.Reading.{readingOf, entriesAfter}
-use Rattle.rules.specs.Answer.{Given, reportOf, statusAfter, logAfter}
+use Rattle.rules.specs.Answer.{Given, Buffers, reportOf, statusAfter, hintsAfter, logAfter}
 use Rattle.igbezolum.specs.declared.IgbReading.{IgbReading}
 use Rattle.igbezolum.specs.declared.IgbReport.{IgbReport}
 
@@ -39,10 +39,11 @@ pub record ReadsIn (text : List ℕ) (before : List ℤ) (result : IgbReading) (
   pub after-is : after ≡ entriesAfter text before
 
 -- what a run promises, in numbers
-pub record RunsIn (g : Given) (result : IgbReport) (status : List ℕ) (log : List ℕ) : Type 0 where
+pub record RunsIn (g : Given) (result : IgbReport) (after : Buffers) : Type 0 where
   pub result-is : result ≡ reportNumbers (reportOf g)
-  pub status-is : status ≡ statusAfter g
-  pub log-is : log ≡ logAfter g
+  pub status-is : after .status ≡ statusAfter g
+  pub hints-are : after .hints ≡ hintsAfter g
+  pub log-is : after .log ≡ logAfter g
 
 -- place and count of every reading are within these
 

@@ -3,7 +3,7 @@
 ghost use mathlib.Core.Path.{_≡_};
 ghost use Prim.Native.Nat.{_≤_};
 ghost use Rattle.rules.specs.Numbers.{maxEntries, runPlace};
-ghost use Rattle.rules.specs.Answer.{given};
+ghost use Rattle.rules.specs.Answer.{given, buffers};
 ghost use Rattle.rules.specs.Printed.{Prints};
 ghost use Rattle.igbezolum.specs.Linked.{readingNumbers, reportNumbers, ReadingFits, ReadsIn, RunsIn};
 use rules::numbers::read_number;
@@ -71,7 +71,7 @@ pub extern "C" fn igb_read(text: &[u8], entries: &mut [i32]) -> IgbReading
     reading_numbers(reading)
 }
 
-// The run over an entry list, into the statuses and the log that are lent.
+// The run over an entry list, into the statuses, the hints and the log that are lent.
 // Rules out: the free counted as forced; a run under a budget that was not given.
 #[no_mangle]
 pub extern "C" fn igb_run(
@@ -80,12 +80,13 @@ pub extern "C" fn igb_run(
     budget: u32,
     chunk_limit: u32,
     status: &mut [u8],
+    hints: &mut [u32],
     log: &mut [u32],
 ) -> IgbReport
-    ensures { λ r. ⌜ RunsIn (given (now (entries .entry)) vars budget «chunk_limit» (now (status .entry)) (now (log .entry)))
-        r (now (status .exit)) (now (log .exit)) ⌝ }
+    ensures { λ r. ⌜ RunsIn (given (now (entries .entry)) vars budget «chunk_limit» (buffers (now (status .entry)) (now (hints .entry)) (now (log .entry))))
+        r (buffers (now (status .exit)) (now (hints .exit)) (now (log .exit))) ⌝ }
 {
-    let report = backbone::run(entries, vars, budget, chunk_limit, status, log);
+    let report = backbone::run(entries, vars, budget, chunk_limit, status, hints, log);
     report_numbers(report)
 }
 

@@ -100,13 +100,7 @@ pub fn put_lines(out: &mut [u8], at: usize, status: &[u8], hints: &[u32]) -> usi
     let mut next = at;
     let mut i: usize = 0;
     while i < status.len() {
-        next = put_variable(
-            out,
-            next,
-            rules::Var(i as u32 + 1),
-            status[i],
-            hints[i],
-        );
+        next = put_variable(out, next, rules::Var(i as u32 + 1), status[i], hints[i]);
         i += 1;
     }
     next

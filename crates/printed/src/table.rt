@@ -18,7 +18,13 @@ use rules::numbers::run_number;
 // The answer line, and a line for each variable. After 20 there is no model and nothing to say of a variable.
 // Rules out: the lines of the variables after 20; none of them after 21.
 // Required of: put_run, for a run that is not refused.
-fn put_table(out: &mut [u8], vars: u32, report: rules::Report, status: &[u8], hints: &[u32]) -> usize
+fn put_table(
+    out: &mut [u8],
+    vars: u32,
+    report: rules::Report,
+    status: &[u8],
+    hints: &[u32],
+) -> usize
     requires { ⌜ TableReady vars report (now status) (now hints) (now out) ⌝ }
     ensures { λ r. ⌜ Put 0 (tableOfRun vars report (now (status .entry)) (now (hints .entry))) (now (out .entry)) r (now (out .exit)) ⌝ }
 {

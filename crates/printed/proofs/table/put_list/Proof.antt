@@ -40,8 +40,7 @@ slice-aggregate-put-run-3 c = sym (length-take-le _ _ (log-fits (c .before .befo
 
 put-run-requires : tie.Need-put-run-requires
 put-run-requires c κs =
-    let s = c .before .before .before .before .before in
-    (
+    let s = c .before .before .before .before .before in (
       s .pre,
       record {
         status-len = length-take-le _ _ (status-fits s);
