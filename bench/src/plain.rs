@@ -224,11 +224,11 @@ fn choose(clauses: &[&[i32]], values: &mut [Value], meter: &mut Meter) -> End {
 
 // ---- the run
 
-fn refusal(entries: &[i32], vars: u32, chunk_limit: u32, status_len: usize, log_len: usize) -> Option<Refusal> {
+fn refusal(entries: &[i32], vars: u32, chunk_limit: u32, least_len: usize, log_len: usize) -> Option<Refusal> {
     if vars > MAX_VARS || chunk_limit == 0 || chunk_limit > MAX_CHUNK {
         return Some((10, 0));
     }
-    if status_len < vars as usize || log_len < 6 * (vars as usize + 1) {
+    if least_len < vars as usize || log_len < 6 * (vars as usize + 1) {
         return Some((1, 0));
     }
     if entries.len() > MAX_ENTRIES {
@@ -245,6 +245,17 @@ fn refusal(entries: &[i32], vars: u32, chunk_limit: u32, status_len: usize, log_
 
 fn holds(clauses: &[&[i32]], model: &[Value]) -> bool {
     clauses.iter().all(|clause| clause.iter().any(|&l| model[index(l)] == Some(l > 0)))
+}
+
+/// The first clause that each variable, flipped alone in the model, makes false, by its number; 0 if it makes none false.
+fn put_hints(clauses: &[&[i32]], model: &mut [Value], hints: &mut [u32]) {
+    for v in 0..model.len() {
+        let value = model[v];
+        model[v] = value.map(|b| !b);
+        let first = clauses.iter().position(|clause| !clause.iter().any(|&l| model[index(l)] == Some(l > 0)));
+        hints[v] = first.map_or(0, |i| i as u32 + 1);
+        model[v] = value;
+    }
 }
 
 /// Compare, then flip: how many candidates each drops.
@@ -271,14 +282,24 @@ fn drop_by(clauses: &[&[i32]], first: &[Value], model: &mut [Value], status: &mu
 }
 
 #[inline(never)]
-pub fn run(entries: &[i32], vars: u32, budget: u32, chunk_limit: u32, status: &mut [u8], log: &mut [u32]) -> Report {
-    if let Some((answer, place)) = refusal(entries, vars, chunk_limit, status.len(), log.len()) {
+pub fn run(
+    entries: &[i32],
+    vars: u32,
+    budget: u32,
+    chunk_limit: u32,
+    status: &mut [u8],
+    hints: &mut [u32],
+    log: &mut [u32],
+) -> Report {
+    if let Some((answer, place)) = refusal(entries, vars, chunk_limit, status.len().min(hints.len()), log.len()) {
         return Report { answer, place: place as u32, ..Report::default() };
     }
     let n = vars as usize;
     let status = &mut status[..n];
+    let hints = &mut hints[..n];
     let log = &mut log[..6 * (n + 1)];
     status.fill(0);
+    hints.fill(0);
     log.fill(0);
     let mut clauses: Vec<&[i32]> = entries.split(|&e| e == 0).collect();
     clauses.pop();
@@ -315,6 +336,7 @@ pub fn run(entries: &[i32], vars: u32, budget: u32, chunk_limit: u32, status: &m
             End::Model => {
                 if report.calls == 1 {
                     first = values.clone();
+                    put_hints(&clauses, &mut values, hints);
                 }
                 let (by_compare, by_flip) = drop_by(&clauses, &first, &mut values, status);
                 (row[1], row[3], row[4]) = (1, by_compare, by_flip);

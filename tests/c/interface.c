@@ -295,7 +295,7 @@ static void tables(void)
         const char *text, *table;
     } cases[] = {
         {"p cnf 2 2\n1 2 0 1 -2 0\n", "answer 0 calls 2 tries 3 forced 1 free 1 open 0\n1 forced on held by clause 1\n2 free\n"},
-        {"p cnf 1 1\n-1 0\n", "answer 0 calls 2 tries 0 forced 1 free 0 open 0\n1 forced off\n"},
+        {"p cnf 1 1\n-1 0\n", "answer 0 calls 2 tries 0 forced 1 free 0 open 0\n1 forced off held by clause 1\n"},
         {"p cnf 1 2\n1 0 -1 0\n", "answer 20 calls 1 tries 0 forced 0 free 0 open 1\n"},
         {"p cnf 1 1\n2 0", "refused 7 place 10\n"},
         {"", "refused 3 place 0\n"},
@@ -304,9 +304,9 @@ static void tables(void)
         size_t len = strlen(cases[i].text);
         prints("exact room", cases[i].text, len, IGB_TABLE_LEN, cases[i].table);
         prints("more room", cases[i].text, len, IGB_TABLE_LEN + 100, cases[i].table);
-        static const size_t lengths[] = {0, 1, 19, 50, 100, 4094, 4095};
-        for (size_t k = 0; k < LEN(lengths); k++)
-            prints("short room", cases[i].text, len, lengths[k], "");
+        static const size_t shorter[] = {0, 1, 19, 50, 100, 4096, 9214, 9215};
+        for (size_t k = 0; k < LEN(shorter); k++)
+            prints("short room", cases[i].text, len, shorter[k], "");
     }
     uint8_t *longer = calloc(IGB_TEXT_MAX + 1, 1);
     if (longer)

@@ -16,6 +16,9 @@ use std::collections::BTreeMap;
 use std::fmt;
 use std::str::FromStr;
 
+/// The least room that a table is put into.
+pub const MAX_TABLE: usize = 9_216;
+
 #[derive(Clone)]
 pub enum Call {
     Read { text: Vec<u8>, room: usize },

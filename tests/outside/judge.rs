@@ -2,7 +2,7 @@
 //! are painted before the call; everything is compared, guards too. A fault can be put into what the library gave, to show that it is
 //! noticed.
 
-use crate::case::{Call, Case};
+use crate::case::{Call, Case, MAX_TABLE};
 use crate::raw;
 use crate::rules::{self, Given};
 use crate::texts::Random;
@@ -195,7 +195,7 @@ fn table(r: &mut Random, text: &[u8], room: usize) -> (Seen, Seen) {
     let mut out = before.clone();
     let lent = Box::<[u8]>::from(text);
     let length = raw::table(&lent, &mut out[GUARD..GUARD + room]);
-    let expected = if room < rules::MAX_TABLE { String::new() } else { rules::table(text) };
+    let expected = if room < MAX_TABLE { String::new() } else { rules::table(text) };
     got.number("table.length", length as i64);
     want.number("table.length", expected.len() as i64);
     got.buffer("table.out", &out, expected.len());

@@ -1,7 +1,7 @@
 //! Cases: those at the edges of the rules, always the same, and cases at random.
 
-use crate::case::Call;
-use crate::rules::{self, Given, MAX_CLAUSES, MAX_ENTRIES, MAX_TABLE, MAX_TEXT, MAX_VARS};
+use crate::case::{Call, MAX_TABLE};
+use crate::rules::{self, Given, MAX_CLAUSES, MAX_ENTRIES, MAX_TEXT, MAX_VARS};
 use crate::texts::{random_text, text_of, with_comments, with_percent, Random};
 
 const LIMITS: [u32; 5] = [1, 2, 3, 16, 256];

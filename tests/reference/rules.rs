@@ -8,7 +8,6 @@ pub const MAX_TEXT: usize = 32_768;
 pub const MAX_VARS: usize = 256;
 pub const MAX_CLAUSES: usize = 1_024;
 pub const MAX_ENTRIES: usize = 4_096;
-pub const MAX_TABLE: usize = 9_216;
 
 /// A refusal: its number and its place.
 pub type Refusal = (u32, usize);

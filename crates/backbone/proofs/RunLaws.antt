@@ -34,7 +34,7 @@ use Rattle.refusals.specs.Refuse.{found}
 use Rattle.formula.specs.Starts.{startsOf}
 use Rattle.formula.specs.Formula.{Formula}
 use Rattle.calls.specs.declared.next.Limits.{Limits}
-use Rattle.calls.specs.Next.{Allowed, task}
+use Rattle.calls.specs.Next.{Allowed}
 use Rattle.backbone.specs.First.{RunDone, HintsDone}
 
 found-some : (o : Option Refusal) {a : Refusal} → Refused a ≡ found o → o ≡ some a

@@ -1,6 +1,6 @@
 // The run on the small formulas of docs/RULES.md, "Small formulas", and on what it refuses ("What comes back"). A line a run: its
-// name, number and place, calls, tries, forced and free, the status bytes, the rows of the calls begun, and how many bytes and numbers
-// of the two buffers are still 7, which all of them were before. `crates/backbone_test/stdout` was written by hand from the page.
+// name, number and place, calls, tries, forced and free, the status bytes, the hints, the rows of the calls begun, and how many elements
+// of each buffer are still 7, which all of them were before. `crates/backbone_test/stdout` was written by hand from the page.
 use libc::STDOUT_FILENO;
 use rules::Report;
 use rules::numbers::run_number;
@@ -26,6 +26,21 @@ fn show_statuses(status: &[u8], vars: u32) {
     let mut i = 0;
     while i < status.len() {
         show_status(i, status[i], vars);
+        i += 1;
+    }
+}
+
+fn show_hint(i: usize, n: u32, vars: u32) {
+    if i < vars as usize {
+        field(n as u64);
+    }
+}
+
+// The hints of the variables.
+fn show_hints(hints: &[u32], vars: u32) {
+    let mut i = 0;
+    while i < hints.len() {
+        show_hint(i, hints[i], vars);
         i += 1;
     }
 }
@@ -92,13 +107,16 @@ fn show_report(name: &[u8], r: Report) {
     field(r.free as u64);
 }
 
-fn show_buffers(vars: u32, calls: u32, status: &[u8], log: &[u32]) {
+fn show_buffers(vars: u32, calls: u32, status: &[u8], hints: &[u32], log: &[u32]) {
     word(b" status");
     show_statuses(status, vars);
+    word(b" hints");
+    show_hints(hints, vars);
     word(b" log");
     show_rows(log, calls);
     word(b" kept");
     field(bytes_kept(status));
+    field(numbers_kept(hints));
     field(numbers_kept(log));
     word(b"\n");
 }
@@ -110,18 +128,34 @@ fn show(
     budget: u32,
     limit: u32,
     status: &mut [u8],
+    hints: &mut [u32],
     log: &mut [u32],
 ) {
-    let r = backbone::run(entries, vars, budget, limit, status, log);
+    let r = backbone::run(entries, vars, budget, limit, status, hints, log);
     show_report(name, r);
-    show_buffers(vars, r.calls, status, log);
+    show_buffers(vars, r.calls, status, hints, log);
 }
 
-// A run with a byte and a number more than three variables have.
+// A run with an element more in each buffer than three variables have.
 fn show_within(name: &[u8], entries: &[i32], vars: u32, budget: u32, limit: u32) {
     let mut status = [7u8; 4];
+    let mut hints = [7u32; 4];
     let mut log = [7u32; 25];
-    show(name, entries, vars, budget, limit, &mut status, &mut log);
+    show(
+        name,
+        entries,
+        vars,
+        budget,
+        limit,
+        &mut status,
+        &mut hints,
+        &mut log,
+    );
+}
+
+// Three variables, budget 100 and chunk limit 2, with these buffers.
+fn show_lent(name: &[u8], entries: &[i32], status: &mut [u8], hints: &mut [u32], log: &mut [u32]) {
+    show(name, entries, 3, 100, 2, status, hints, log);
 }
 
 // Budget 100 and chunk limit 2.
@@ -147,6 +181,7 @@ fn one_variable_cases() {
 fn two_variable_cases() {
     show_plain(b"not_equal", &[1, 2, 0, -1, -2, 0], 2);
     show_plain(b"one_forced", &[1, 2, 0, 1, -2, 0], 2);
+    show_plain(b"held_in_first_model", &[1, -2, 0, 1, 2, 0], 2);
 }
 
 fn three_variable_cases() {
@@ -168,15 +203,16 @@ fn limit_cases() {
 // 1.
 fn buffer_cases() {
     let list = [1i32, 2, 3, 0];
-    let mut three = [7u8; 3];
+    let mut status = [7u8; 3];
+    let mut hints = [7u32; 3];
     let mut rows = [7u32; 24];
-    show(b"buffers_right", &list, 3, 100, 2, &mut three, &mut rows);
     let mut two = [7u8; 2];
-    let mut more = [7u32; 25];
-    show(b"status_short", &list, 3, 100, 2, &mut two, &mut more);
-    let mut four = [7u8; 4];
+    show_lent(b"status_short", &list, &mut two, &mut hints, &mut rows);
+    let mut few = [7u32; 2];
+    show_lent(b"hints_short", &list, &mut status, &mut few, &mut rows);
     let mut less = [7u32; 23];
-    show(b"log_short", &list, 3, 100, 2, &mut four, &mut less);
+    show_lent(b"log_short", &list, &mut status, &mut hints, &mut less);
+    show_lent(b"buffers_right", &list, &mut status, &mut hints, &mut rows);
 }
 
 // 11.
@@ -209,9 +245,28 @@ fn above_cases() {
 // The order 10, 1, 11, 12, and within 11: too many entries, not ended, too many zeros.
 fn order_cases() {
     let mut two = [7u8; 2];
+    let mut hints = [7u32; 3];
     let mut log = [7u32; 25];
-    show(b"10_before_1", &[2], 3, 100, 0, &mut two, &mut log);
-    show(b"1_before_11", &[4], 3, 100, 2, &mut two, &mut log);
+    show(
+        b"10_before_1",
+        &[2],
+        3,
+        100,
+        0,
+        &mut two,
+        &mut hints,
+        &mut log,
+    );
+    show(
+        b"1_before_11",
+        &[4],
+        3,
+        100,
+        2,
+        &mut two,
+        &mut hints,
+        &mut log,
+    );
     show_plain(b"11_before_12", &[2], 1);
     let mut zeros = [0i32; 1026];
     zeros[0] = 2;

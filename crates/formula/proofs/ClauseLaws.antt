@@ -10,16 +10,16 @@
 --   length-starts                 one start more than clauses
 --
 -- Assumes nothing.
-use mathlib.Core.Path.{_≡_, refl, sym, _∙_, ap}
+use mathlib.Core.Path.{_≡_, sym, _∙_, ap}
 use mathlib.Core.Logic.{_⊎_, inl, inr}
-use mathlib.Core.List.{List, [], _∷_, _++_, List·Memᴰ·head, List·Memᴰ·tail, List·Memᴰ·not-nil, List·Memᴰ·append-cases, List·Memᴰ·eq-of-singleton}
+use mathlib.Core.List.{List, [], _∷_, _++_, List·Memᴰ·not-nil, List·Memᴰ·append-cases, List·Memᴰ·eq-of-singleton}
 use Prim.Native.Nat.{ℕ, zero, suc, pred, _-_, _<_, _≤_}
 use native.Mathlib.Omega.{arith}
-use lib.IntN.{ℤ, pos, negsuc}
+use lib.IntN.{ℤ}
 use lib.ListN.{getD, length, take, drop, length-append, List·getD-append}
 use lib.Seq.{take-all, take-append-seam, getD-take, getD-append-seam, length-take-le}
 use Rattle.rules.specs.Lists.{In}
-use Rattle.rules.specs.Meaning.{Clause, varOf, leading, clauses}
+use Rattle.rules.specs.Meaning.{Clause, varOf, clauses}
 use Rattle.rules.proofs.ListLaws.{in-getD}
 use Rattle.rules.proofs.ClauseLaws.{clauses-entries}
 use Rattle.formula.specs.Clauses.{ClauseUpTo}

@@ -23,8 +23,8 @@ use Rattle.rules.specs.Meaning.{Clause, Values, LitUpTo, varOf, indexOf,
 use Rattle.rules.specs.Meaning.{clauses, firstFalseFrom, firstFalse, Model}
 use Rattle.rules.specs.Models.{Forced}
 use Rattle.rules.specs.Search.{Call, model, no-model, stopped}
-use Rattle.rules.specs.Run.{Task, statusAt, isForcedTo, forcedBy, otherByte, flipped, blank, firstCall, onFirst, run}
-use Rattle.rules.specs.Hints.{flipBy, flipTest, mayFlip, hintNumber, hintAt, hintsIn, hintsOf, clauseNo, OnlyTrue, HeldBy, FirstFalse}
+use Rattle.rules.specs.Run.{Task, statusAt, isForcedTo, forcedBy, otherByte, flipped, blank, firstCall, run}
+use Rattle.rules.specs.Hints.{flipBy, flipTest, mayFlip, hintNumber, hintAt, hintsIn, hintsOf, HeldBy, FirstFalse}
 use Rattle.rules.proofs.ListLaws.{apart, never, not-true, any-sound, none-of-any, all-sound, in-getD, getD-tabled}
 use Rattle.rules.proofs.ClauseLaws.{clauses-entries}
 use Rattle.rules.proofs.MeaningLaws.{set-cases, blank-proper}

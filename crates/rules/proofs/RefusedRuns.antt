@@ -76,7 +76,8 @@ module _ (g : Given) where
   room-judged w false e rest f = f (room-false g w e)
   room-judged w true e rest f = short-buffer w (room-sound g e)
 
-  limits-judged : (b : Bool) → outOfLimits (g .vars) (g .limit) ≡ b → (rest : Option Refusal) → (InLimits g → Judges g rest) → Judges g (orNext b Refusal.BadLimits rest)
+  limits-judged : (b : Bool) → outOfLimits (g .vars) (g .limit) ≡ b → (rest : Option Refusal)
+      → (InLimits g → Judges g rest) → Judges g (orNext b Refusal.BadLimits rest)
   limits-judged false e rest f = f (limits-false g e)
   limits-judged true e rest f = bad-limits (limits-sound g e)
 

@@ -310,7 +310,8 @@ module _ {text : List ℕ} {vars n : ℕ} {es : List ℤ} (d : Dimacs text vars 
 
   -- the line of a variable says `forced on`, and which clause holds it, exactly if a model exists and all models make it true
   pub table-forced-on : SaysAnswer 0 (tableOf text) → (i : ℕ) → i < vars
-      → (lineAt (tableOf text) (suc i) ≡ decimal (suc i) ++ (forcedWord ++ onWord ++ heldWord ++ decimal (getD (hintsOf k) i 0))) ↔ Forced vars (clauses es) (pos (suc i))
+      → (lineAt (tableOf text) (suc i) ≡ decimal (suc i) ++ (forcedWord ++ onWord ++ heldWord ++ decimal (getD (hintsOf k) i 0)))
+      ↔ Forced vars (clauses es) (pos (suc i))
   table-forced-on w i h =
       let says = line-of w i h 2 (omega arith) in
       let means = settled-forced k some-limit (settled w) (pos (suc i)) (record { some = omega arith; most = omega arith }) in
@@ -318,7 +319,8 @@ module _ {text : List ℕ} {vars n : ℕ} {es : List ℤ} (d : Dimacs text vars 
 
   -- `forced off` exactly if a model exists and all models make it false
   pub table-forced-off : SaysAnswer 0 (tableOf text) → (i : ℕ) → i < vars
-      → (lineAt (tableOf text) (suc i) ≡ decimal (suc i) ++ (forcedWord ++ offWord ++ heldWord ++ decimal (getD (hintsOf k) i 0))) ↔ Forced vars (clauses es) (negsuc i)
+      → (lineAt (tableOf text) (suc i) ≡ decimal (suc i) ++ (forcedWord ++ offWord ++ heldWord ++ decimal (getD (hintsOf k) i 0)))
+      ↔ Forced vars (clauses es) (negsuc i)
   table-forced-off w i h =
       let says = line-of w i h 3 (omega arith) in
       let means = settled-forced k some-limit (settled w) (negsuc i) (record { some = omega arith; most = omega arith }) in

@@ -72,7 +72,9 @@ hinting-done w h = record { hints-are = filled-done (w .filled) h; values-same =
 -- ---- by the rules
 
 pub hints-of-total : (F : List Clause) (m : Values) → Total m → tabled (hintIn F m) 0 (length m) ≡ tabled (hintAt F m) 0 (length m)
-hints-of-total F m t = tabled-cong (hintIn F m) (hintAt F m) 0 (length m) (λ j a b. hintIf-set (getD m j 0) (hintAt F m j) (λ z. unset j (omega arith) z (t .valued j)))
+hints-of-total F m t =
+    tabled-cong (hintIn F m) (hintAt F m) 0 (length m)
+    (λ j a b. hintIf-set (getD m j 0) (hintAt F m j) (λ z. unset j (omega arith) z (t .valued j)))
   where
     unset : (j : ℕ) → j < length m → getD m j 0 ≡ 0 → (valueAt m j ≡ 1) ⊎ (valueAt m j ≡ 2) → ⊥
     unset j h z (inl e) = omega (arith, getD-default m j 0 1 h)

@@ -68,7 +68,8 @@ put-field-requires-2 : tie.Need-put-field-requires-2
 put-field-requires-2 c κs =
     let other = c .before .before in
     let s = other .before .before .before .before in
-    room-same (words-off (s .args .status) (s .args .hint) (omega (arith, other .if3 .left, other .before .if2 .left, other .before .before .if1 .left))) (s .pre)
+    room-same
+    (words-off (s .args .status) (s .args .hint) (omega (arith, other .if3 .left, other .before .if2 .left, other .before .before .if1 .left))) (s .pre)
 
 same-length-4 : tie.Need-same-length-4
 same-length-4 c = search needs

@@ -1,5 +1,6 @@
 -- `line::put_variable` meets its contract: the number, the words, LF. Assumes nothing.
-use mathlib.Core.List.{[], _∷_, _++_}
+use mathlib.Core.List.{List, [], _∷_, _++_}
+use Prim.Native.Nat.{ℕ}
 use borrow.Author.Needs.{needs}
 use Rattle.rules.specs.Plain.{decimal}
 use Rattle.rules.specs.Printed.{statusWords}
@@ -11,27 +12,31 @@ use Rattle.lines.proofs.line.put_variable.Tie as tie
 cast-put-decimal : tie.Need-cast-put-decimal
 cast-put-decimal c = search needs
 
+-- what is said of the variable
+abbrev words : tie.Start → List ℕ
+words s = statusWords (s .args .status) (s .args .hint)
+
 put-decimal-requires : tie.Need-put-decimal-requires
 put-decimal-requires c κs =
     let s = c .before .before .before in
-    room-first (decimal (s .args .v .0)) (statusWords (s .args .status) (s .args .hint) ++ 10 ∷ []) (s .pre)
+    room-first (decimal (s .args .v .0)) (words s ++ 10 ∷ []) (s .pre)
 
 -- the room that the number leaves
 behind-variable : (c : tie.After-put-decimal)
-    → Room (c .put-decimal .result) (statusWords (c .before .before .before .before .args .status) (c .before .before .before .before .args .hint) ++ 10 ∷ []) (c .put-decimal .last .0)
+    → Room (c .put-decimal .result) (words (c .before .before .before .before) ++ 10 ∷ []) (c .put-decimal .last .0)
 behind-variable c =
     let s = c .before .before .before .before in
-    room-then (decimal (s .args .v .0)) (statusWords (s .args .status) (s .args .hint) ++ 10 ∷ []) (s .pre) (c .put-decimal .ensures)
+    room-then (decimal (s .args .v .0)) (words s ++ 10 ∷ []) (s .pre) (c .put-decimal .ensures)
 
 put-status-requires : tie.Need-put-status-requires
 put-status-requires c κs =
-    room-first (statusWords (c .before .before .before .before .before .before .before .args .status) (c .before .before .before .before .before .before .before .args .hint)) (10 ∷ []) (behind-variable (c .before .before .before))
+    room-first (words (c .before .before .before .before .before .before .before)) (10 ∷ []) (behind-variable (c .before .before .before))
 
 put-byte-requires : tie.Need-put-byte-requires
 put-byte-requires c κs =
     let said = c .before .before .before in
     let number = said .before .before .before .before in
-    room-then (statusWords (number .before .before .before .before .args .status) (number .before .before .before .before .args .hint)) (10 ∷ []) (behind-variable number) (said .put-status .ensures)
+    room-then (words (number .before .before .before .before)) (10 ∷ []) (behind-variable number) (said .put-status .ensures)
 
 same-length : tie.Need-same-length
 same-length c = search needs

@@ -25,7 +25,9 @@ returns c =
     let s = number .before .before .before .before in
     let r = s .args .report in
     put-same
-    (sym (table-first (r .answer) (s .args .vars) r (s .args .status .now) (s .args .hints .now) (s .pre .ended) (sym (number .run-number .ensures) ∙ c .if1 .taken)))
+    (sym
+    (table-first (r .answer) (s .args .vars) r (s .args .status .now) (s .args .hints .now) (s .pre .ended)
+    (sym (number .run-number .ensures) ∙ c .if1 .taken)))
     (first .put-answer .ensures)
 
 -- the table, after 0 and 21
@@ -36,7 +38,8 @@ whole c =
     let number = c .before .before .before .before .before in
     let s = number .before .before .before .before in
     let r = s .args .report in
-    table-lines (r .answer) (s .args .vars) r (s .args .status .now) (s .args .hints .now) (s .pre .ended) (λ e. omega (arith, number .run-number .ensures, c .if1 .left, e))
+    table-lines (r .answer) (s .args .vars) r (s .args .status .now) (s .args .hints .now) (s .pre .ended)
+    (λ e. omega (arith, number .run-number .ensures, c .if1 .left, e))
 
 put-lines-requires : tie.Need-put-lines-requires
 put-lines-requires c κs =

@@ -51,8 +51,10 @@ loop-less c = simp length-set (omega arith)
 loop-again : tie.Need-loop-again Inv-loop μ-loop
 loop-again c =
     let at-loop = c .before .before .before .before .before in
-    let l = at-loop .loop in
-    (length-set (l .hints) (l .i) _ ∙ l .inv .0, hinting-step (l .inv .1) (c .before .before .before .before .loop-test .taken) (c .before .before .hint-of .ensures))
+    let l = at-loop .loop in (
+      length-set (l .hints) (l .i) _ ∙ l .inv .0,
+      hinting-step (l .inv .1) (c .before .before .before .before .loop-test .taken) (c .before .before .hint-of .ensures),
+    )
 
 same-length : tie.Need-same-length Inv-loop μ-loop
 same-length c = ap length (c .before .loop .inv .1 .values-same)
