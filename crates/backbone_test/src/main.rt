@@ -1,5 +1,5 @@
 // The run on the small formulas of docs/RULES.md, "Small formulas", and on what it refuses ("What comes back"). A line a run: its
-// name, number and place, calls, tries, forced and free, the status bytes, the hints, the rows of the calls begun, and how many elements
+// name, number and place, calls, tries, forced and free, the status bytes, all hints, the rows of the calls begun, and how many elements
 // of each buffer are still 7, which all of them were before. `crates/backbone_test/stdout` was written by hand from the page.
 use libc::STDOUT_FILENO;
 use rules::Report;
@@ -30,21 +30,6 @@ fn show_statuses(status: &[u8], vars: u32) {
     }
 }
 
-fn show_hint(i: usize, n: u32, vars: u32) {
-    if i < vars as usize {
-        field(n as u64);
-    }
-}
-
-// The hints of the variables.
-fn show_hints(hints: &[u32], vars: u32) {
-    let mut i = 0;
-    while i < hints.len() {
-        show_hint(i, hints[i], vars);
-        i += 1;
-    }
-}
-
 // A stroke between two rows.
 fn stroke(i: usize) {
     if 0 < i {
@@ -61,7 +46,7 @@ fn show_number(i: usize, n: u32, calls: u32) {
     }
 }
 
-// The rows of the calls begun, six numbers each.
+// So many rows of six numbers: those of the calls begun, and of hints, which are fewer than six here, all that are lent.
 fn show_rows(log: &[u32], calls: u32) {
     let mut i = 0;
     while i < log.len() {
@@ -111,7 +96,7 @@ fn show_buffers(vars: u32, calls: u32, status: &[u8], hints: &[u32], log: &[u32]
     word(b" status");
     show_statuses(status, vars);
     word(b" hints");
-    show_hints(hints, vars);
+    show_rows(hints, 1);
     word(b" log");
     show_rows(log, calls);
     word(b" kept");
