@@ -30,7 +30,7 @@ first-none n vs (cl ∷ F) = go (hasTrue vs cl) (first-none (suc n) vs F)
     go false ih = refl
 
 pub canFlip-mayFlip : (F : List Clause) (m : Values) (i : ℕ) → mayFlip (flipTest F m i) ≡ canFlip F m i
-canFlip-mayFlip F m i = first-none 1 (flipped m i) F
+canFlip-mayFlip F m i = first-none _ (flipped m i) F
 
 -- ---- a hint for each variable
 
