@@ -7,6 +7,7 @@
  *
  *     igb_read     the text to a list of entries
  *     igb_run      the list to a status for each switch, the clause that holds it, and a log of the run
+ *     igb_why      the list and a literal to the clauses that alone force it, or to a valid setup that has it false
  *     igb_table    the text to the printed table, as the program `table` prints it
  *
  * Every input is answered: what is wrong is refused with a number and a place, and nothing is undefined but what C itself asks for.
@@ -36,11 +37,13 @@ extern "C" {
 #define IGB_CHUNK_MAX 256     /* largest chunk limit; the smallest is 1 */
 #define IGB_LOG_ROW 6         /* numbers of a log row */
 
-/* Buffers that are long enough for every formula, in elements. The first and the last are also the least that is taken. */
+/* Buffers that are long enough for every formula, in elements. Those for entries, marks and the table are also the least that is taken. */
 #define IGB_ENTRIES_LEN 4096  /* int32_t, for igb_read */
 #define IGB_STATUS_LEN 256    /* uint8_t, for igb_run */
 #define IGB_HINTS_LEN 256     /* uint32_t, for igb_run */
 #define IGB_LOG_LEN 1542      /* uint32_t, for igb_run: a row for each variable and one more */
+#define IGB_MARKS_LEN 1024    /* uint8_t, for igb_why */
+#define IGB_VALUES_LEN 256    /* uint8_t, for igb_why */
 #define IGB_TABLE_LEN 9216    /* uint8_t, for igb_table */
 
 #define IGB_STACK_BYTES 524288 /* stack that is enough for every call */
@@ -51,9 +54,9 @@ extern "C" {
 
 /* ---- numbers */
 
-/* The answer of a reading or a run. Places and indices count from 0; the place of 0, 1, 10, 20 and 21 is 0. */
+/* The answer of a reading, a run or a why. Places and indices count from 0; the place of 0, 1, 10, 13, 20, 21 and 22 is 0. */
 enum {
-    IGB_OK = 0,                /* the text is accepted; the run is settled and there is a valid setup */
+    IGB_OK = 0,                /* the text is accepted; the run is settled and there is a valid setup; the clauses are marked */
     IGB_SHORT_BUFFER = 1,      /* a lent buffer is too short */
     IGB_LONG_TEXT = 2,         /* the text has over IGB_TEXT_MAX bytes; place IGB_TEXT_MAX */
     IGB_BAD_HEADER = 3,        /* the header is missing or malformed; place: start of that line, or text length */
@@ -63,12 +66,14 @@ enum {
     IGB_TOKEN_OVER_VARS = 7,   /* a variable above the header's number */
     IGB_MANY_TOKENS = 8,       /* one entry more than IGB_ENTRIES_MAX */
     IGB_SHORT_TEXT = 9,        /* the text ends inside a clause or before the last one; place: text length */
-    IGB_BAD_LIMITS = 10,       /* run: over IGB_VARS_MAX variables, or a chunk limit of 0 or over IGB_CHUNK_MAX */
-    IGB_BAD_LIST = 11,         /* run: list over IGB_ENTRIES_MAX (place IGB_ENTRIES_MAX), not ended by 0 (its length), or with
+    IGB_BAD_LIMITS = 10,       /* run, why: over IGB_VARS_MAX variables; run: a chunk limit of 0 or over IGB_CHUNK_MAX */
+    IGB_BAD_LIST = 11,         /* run, why: list over IGB_ENTRIES_MAX (place IGB_ENTRIES_MAX), not ended by 0 (its length), or with
                                   more than IGB_CLAUSES_MAX zeros (index of the first one too many) */
-    IGB_ENTRY_OVER_VARS = 12,  /* run: a variable above vars; place: index of the first */
+    IGB_ENTRY_OVER_VARS = 12,  /* run, why: a variable above vars; place: index of the first */
+    IGB_BAD_LITERAL = 13,      /* why: the literal is 0, or its variable is above vars */
     IGB_NO_MODEL = 20,         /* there is no valid setup */
-    IGB_STOPPED = 21           /* the budget stopped the run; what is marked holds */
+    IGB_STOPPED = 21,          /* the budget stopped the run, and what is marked holds; or it stopped the why, and nothing is marked */
+    IGB_NOT_FORCED = 22        /* why: a valid setup has the literal false */
 };
 
 /* The status of a variable. */
@@ -118,6 +123,13 @@ typedef struct {
     uint32_t free;   /* variables marked free; vars less both are open */
 } igb_report;
 
+typedef struct {
+    uint32_t answer;
+    uint32_t place;
+    uint32_t calls; /* calls begun, at most the number of clauses and 2; this and the next are 0 if it is refused */
+    uint32_t tries; /* at most the budget */
+} igb_why_report;
+
 /*
  * Reads a text. Its entries are the literals of clause 1 and a 0, those of clause 2 and a 0, and so on.
  *
@@ -144,6 +156,19 @@ igb_reading igb_read(const uint8_t *text, size_t text_len, int32_t *entries, siz
  */
 igb_report igb_run(const int32_t *entries, size_t entries_len, uint32_t vars, uint32_t budget, uint32_t chunk_limit,
                    uint8_t *status, size_t status_len, uint32_t *hints, size_t hints_len, uint32_t *log, size_t log_len);
+
+/*
+ * Why is a literal forced? Marks clauses of a list of `vars` variables that alone force it: no assignment makes all of them true with the
+ * literal false, and without any single one of them there is such an assignment. Of two separate reasons the earlier one is marked.
+ * `budget` is how many tries all calls may take together.
+ *
+ * Refused it writes nothing: IGB_BAD_LIMITS (for vars alone), IGB_SHORT_BUFFER (marks_len below IGB_MARKS_LEN or values_len below vars),
+ * IGB_BAD_LIST, IGB_ENTRY_OVER_VARS, IGB_BAD_LITERAL, in that order. Otherwise it writes the first IGB_MARKS_LEN bytes of `marks`, that of
+ * clause n at n - 1, and the first `vars` bytes of `values`, that of variable v at v - 1. After IGB_OK a marked clause's byte is 1; after
+ * IGB_NOT_FORCED the values are a valid setup, 1 on and 0 off; every other byte is 0. Longer buffers keep their rest.
+ */
+igb_why_report igb_why(const int32_t *entries, size_t entries_len, uint32_t vars, int32_t literal, uint32_t budget,
+                       uint8_t *marks, size_t marks_len, uint8_t *values, size_t values_len);
 
 /*
  * Puts the table of a text at the start of `out` and returns its length in bytes: lines ended by LF, with no 0 behind them. Nothing

@@ -1,9 +1,19 @@
 #!/usr/bin/env bash
-# The run that README.md shows is the one that the program makes.
+# The runs that README.md shows are the ones that the programs make.
 cd "$(dirname "$0")/.." || exit 2
-shown=$(awk '/^    answer /{on = 1} on && !/^    /{exit} on {print substr($0, 5)}' README.md)
-if [ "$(./table examples/surface_ring.cnf)" != "$shown" ]; then
-    echo "readme: README.md shows another table than ./table examples/surface_ring.cnf prints"
+# block N: the Nth indented block of README.md that begins with the word `answer`.
+block() {
+    awk -v n="$1" '/^    /{if (!inside && /^    answer /) k++; if (k == n && (inside || /^    answer /)) print substr($0, 5); inside = 1; next} {inside = 0; if (k == n) exit}' README.md
+}
+# is_shown N WORDS...: what the words print is block N
+is_shown() {
+    local shown
+    shown=$(block "$1")
+    shift
+    [ "$("$@")" = "$shown" ] && return
+    echo "readme: README.md shows something else than $* prints"
     exit 1
-fi
-echo "readme: the run is as shown"
+}
+is_shown 1 ./table examples/surface_ring.cnf
+is_shown 2 ./why examples/surface_ring.cnf 1
+echo "readme: the runs are as shown"

@@ -1,11 +1,11 @@
 //! Which switches of a card's rules are forced, and which are free.
 //!
 //! A card's rules are a DIMACS CNF text, one variable a switch. [`read`] takes the text, [`Formula::run`] works out the status of every
-//! switch, and [`table`] prints it as the program `table` does. What breaks the rules is refused: [`Refusal`] says by which rule and
+//! switch, [`Formula::why`] which rules force one, and [`table`] prints the statuses as the program `table` does. What breaks the rules is refused: [`Refusal`] says by which rule and
 //! where. The answers are those of a proved library, which this crate links; [`raw`] has its functions as they are.
 //!
 //! ```
-//! use igbezolum::{read, End, Limits, Status};
+//! use igbezolum::{read, End, Found, Limits, Status};
 //!
 //! let card = read(b"p cnf 2 2\n1 2 0 1 -2 0\n")?;
 //! let run = card.run(Limits::default())?;
@@ -13,6 +13,8 @@
 //! assert_eq!(run.status, [Status::ForcedOn, Status::Free]);
 //! assert_eq!(run.forced().collect::<Vec<_>>(), [(1, true)]);
 //! assert_eq!(run.held_by(1), Some(1));
+//! let Found::Reason(reason) = card.why(1, 1_000_000)?.found else { panic!("1 is forced") };
+//! assert_eq!(reason.clauses.iter().map(|clause| clause.number).collect::<Vec<_>>(), [1, 2]);
 //! # Ok::<(), igbezolum::Refusal>(())
 //! ```
 
@@ -22,9 +24,11 @@
 pub mod raw;
 mod refusal;
 mod run;
+mod why;
 
 pub use refusal::Refusal;
 pub use run::{CallEnd, End, Limits, LogRow, Run, Status};
+pub use why::{Choice, Found, Kept, Reason, Why};
 
 /// Bytes of a text, at most.
 pub const TEXT_MAX: usize = 32_768;

@@ -35,8 +35,22 @@ pub struct Report {
     pub free: u32,
 }
 
+/// What [`why`] answers; `include/igbezolum.h` has the same as `igb_why_report`.
+#[repr(C)]
+#[derive(Clone, Copy, Debug, Default, PartialEq, Eq)]
+pub struct WhyReport {
+    /// 0 clauses are marked, 20 no model, 21 stopped, 22 not forced, else the number of the refusal.
+    pub answer: u32,
+    /// The index of a refusal.
+    pub place: u32,
+    /// Calls begun; this and the next are 0 if it is refused.
+    pub calls: u32,
+    /// Tries taken.
+    pub tries: u32,
+}
+
 mod c {
-    use super::{Reading, Report};
+    use super::{Reading, Report, WhyReport};
 
     extern "C" {
         pub fn igb_read(text: *const u8, text_len: usize, entries: *mut i32, entries_len: usize) -> Reading;
@@ -53,11 +67,22 @@ mod c {
             log: *mut u32,
             log_len: usize,
         ) -> Report;
+        pub fn igb_why(
+            entries: *const i32,
+            entries_len: usize,
+            vars: u32,
+            literal: i32,
+            budget: u32,
+            marks: *mut u8,
+            marks_len: usize,
+            values: *mut u8,
+            values_len: usize,
+        ) -> WhyReport;
         pub fn igb_table(text: *const u8, text_len: usize, out: *mut u8, out_len: usize) -> usize;
     }
 }
 
-// In all three: the C functions ask for pointers that are valid for their lengths and for written buffers that overlap no other
+// In all four: the C functions ask for pointers that are valid for their lengths and for written buffers that overlap no other
 // argument. Slices are that, and a `&mut` one overlaps nothing. The functions keep no pointer, and every input is answered.
 
 /// Reads a text. With 4,096 entries or more the first 4,096 are written: the list and then zeros; with fewer, or after 2, nothing is.
@@ -80,6 +105,14 @@ pub fn run(
     let (e, n) = (entries.as_ptr(), entries.len());
     // SAFETY: as said above.
     unsafe { c::igb_run(e, n, vars, budget, chunk_limit, s, status.len(), h, hints.len(), l, log.len()) }
+}
+
+/// Why a literal is forced. If it is not refused, the first 1,024 marks and the first `vars` values are written.
+pub fn why(entries: &[i32], vars: u32, literal: i32, budget: u32, marks: &mut [u8], values: &mut [u8]) -> WhyReport {
+    let (m, v) = (marks.as_mut_ptr(), values.as_mut_ptr());
+    let (e, n) = (entries.as_ptr(), entries.len());
+    // SAFETY: as said above.
+    unsafe { c::igb_why(e, n, vars, literal, budget, m, marks.len(), v, values.len()) }
 }
 
 /// Puts the table of a text at the start of a buffer and answers its length; 0, and nothing is written, if there is no room for 9,216

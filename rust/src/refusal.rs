@@ -57,11 +57,16 @@ pub enum Refusal {
         /// The index of the first one.
         index: usize,
     },
+    /// 13: a literal that is 0, or whose variable is above the formula's number.
+    BadLiteral {
+        /// 0 for the literal that is asked about; of held choices the index of the first one.
+        index: usize,
+    },
 }
 
 use Refusal::{
-    BadHeader, BadLimits, BadList, BadToken, EntryOverVars, LargeHeader, LongText, ManyTokens, ShortBuffer, ShortText, TokenBehind,
-    TokenOverVars,
+    BadHeader, BadLimits, BadList, BadLiteral, BadToken, EntryOverVars, LargeHeader, LongText, ManyTokens, ShortBuffer, ShortText,
+    TokenBehind, TokenOverVars,
 };
 
 impl Refusal {
@@ -82,11 +87,12 @@ impl Refusal {
             10 => BadLimits,
             11 => BadList { index },
             12 => EntryOverVars { index },
+            13 => BadLiteral { index },
             _ => return None,
         })
     }
 
-    /// The number of the rule, 1 to 12.
+    /// The number of the rule, 1 to 13.
     #[must_use]
     pub fn number(self) -> u32 {
         match self {
@@ -102,10 +108,11 @@ impl Refusal {
             BadLimits => 10,
             BadList { .. } => 11,
             EntryOverVars { .. } => 12,
+            BadLiteral { .. } => 13,
         }
     }
 
-    /// The place: a byte of the text (2 to 9), an index of the list (11, 12), else 0.
+    /// The place: a byte of the text (2 to 9), an index of the list (11, 12) or of the held choices (13), else 0.
     #[must_use]
     pub fn place(self) -> usize {
         match self {
@@ -118,7 +125,7 @@ impl Refusal {
             | TokenOverVars { byte }
             | ManyTokens { byte }
             | ShortText { byte } => byte,
-            BadList { index } | EntryOverVars { index } => index,
+            BadList { index } | EntryOverVars { index } | BadLiteral { index } => index,
         }
     }
 }
@@ -137,6 +144,7 @@ impl fmt::Display for Refusal {
             ShortText { .. } => "the text ends inside a clause or before the last one",
             BadLimits => "over 256 variables, or a chunk limit of 0 or over 256",
             BadList { .. } => "the list is too long, not ended by 0, or has a 1,025th zero",
+            BadLiteral { .. } => "a literal that is 0 or above the number of variables",
         };
         write!(f, "refused {} place {}: {what}", self.number(), self.place())
     }

@@ -57,8 +57,8 @@ fn runs_are_refused() {
 
 #[test]
 fn numbers_and_variants_go_together() {
-    for answer in 1..=12 {
-        let refusal = Refusal::of(answer, 5).expect("1 to 12 are refusals");
+    for answer in 1..=13 {
+        let refusal = Refusal::of(answer, 5).expect("1 to 13 are refusals");
         assert_eq!(refusal.number(), answer);
         let place = match answer {
             1 | 10 => 0,
@@ -67,7 +67,7 @@ fn numbers_and_variants_go_together() {
         };
         assert_eq!(refusal.place(), place);
     }
-    assert_eq!([0, 13, 20, 21].map(|answer| Refusal::of(answer, 0)), [None; 4]);
+    assert_eq!([0, 14, 20, 21, 22].map(|answer| Refusal::of(answer, 0)), [None; 5]);
 }
 
 #[test]

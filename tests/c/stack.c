@@ -13,6 +13,7 @@ enum { LARGE = 8 << 20, BELOW = 4 << 20, PAINT = 0xA5 };
 static int32_t entries[IGB_ENTRIES_LEN];
 static uint8_t status[IGB_STATUS_LEN], table[IGB_TABLE_LEN];
 static uint32_t hints[IGB_HINTS_LEN], log_rows[IGB_LOG_LEN];
+static uint8_t marks[IGB_MARKS_LEN], values[IGB_VALUES_LEN];
 
 static void *nothing(void *unused)
 {
@@ -32,6 +33,13 @@ static void *run_deepest(void *unused)
 {
     igb_report got = igb_run(entries, 0, 256, UINT32_MAX, 256, status, IGB_STATUS_LEN, hints, IGB_HINTS_LEN, log_rows, IGB_LOG_LEN);
     CHECK(got.answer == IGB_OK && got.tries == 256 && got.free == 256, "the deepest run");
+    return unused;
+}
+
+static void *why_deepest(void *unused)
+{
+    igb_why_report got = igb_why(entries, 0, 256, 256, UINT32_MAX, marks, IGB_MARKS_LEN, values, IGB_VALUES_LEN);
+    CHECK(got.answer == IGB_NOT_FORCED && got.calls == 2 && got.tries == 511, "the deepest why");
     return unused;
 }
 
@@ -70,7 +78,8 @@ int main(void)
     static const struct {
         const char *name;
         void *(*call)(void *);
-    } calls[] = {{"a thread alone", nothing}, {"igb_read", read_largest}, {"igb_run", run_deepest}, {"igb_table", table_deepest}};
+    } calls[] = {{"a thread alone", nothing}, {"igb_read", read_largest}, {"igb_run", run_deepest}, {"igb_why", why_deepest},
+                 {"igb_table", table_deepest}};
     for (size_t i = 0; i < sizeof calls / sizeof *calls; i++) {
         size_t bytes = used(calls[i].call, LARGE);
         CHECK(bytes < IGB_STACK_BYTES, calls[i].name);

@@ -1,6 +1,6 @@
 //! A case: one call of the library and the seed of the paint of its buffers. As a file it is lines of a word and what it is:
 //!
-//!   call run           or read, or table
+//!   call run           or read, or why, or table
 //!   paint 1
 //!   vars 3             run: variables, budget, chunk limit, lengths of the buffers, and the list
 //!   budget 100
@@ -9,6 +9,9 @@
 //!   hints_len 3
 //!   log_len 24
 //!   entries 1 2 3 0
+//!   literal -3         why: this, lengths of the buffers, and vars, budget and entries as above
+//!   marks_len 1024
+//!   values_len 3
 //!   room 9216          read and table: length of the buffer, and the text, with \n \t \r \\ and \xHH for what is not printed
 //!   text p cnf 1 1\n1 0\n
 
@@ -23,6 +26,7 @@ pub const MAX_TABLE: usize = 9_216;
 pub enum Call {
     Read { text: Vec<u8>, room: usize },
     Run { entries: Vec<i32>, vars: u32, budget: u32, chunk_limit: u32, status_len: usize, hints_len: usize, log_len: usize },
+    Why { entries: Vec<i32>, vars: u32, literal: i32, budget: u32, marks_len: usize, values_len: usize },
     Table { text: Vec<u8>, room: usize },
 }
 
@@ -37,6 +41,7 @@ impl Call {
         match self {
             Call::Read { .. } => "read",
             Call::Run { .. } => "run",
+            Call::Why { .. } => "why",
             Call::Table { .. } => "table",
         }
     }
@@ -79,6 +84,10 @@ fn unescaped(word: &str) -> Option<Vec<u8>> {
     Some(out)
 }
 
+fn joined(entries: &[i32]) -> String {
+    entries.iter().map(i32::to_string).collect::<Vec<_>>().join(" ")
+}
+
 impl fmt::Display for Case {
     fn fmt(&self, f: &mut fmt::Formatter<'_>) -> fmt::Result {
         writeln!(f, "call {}\npaint {}", self.call.name(), self.paint)?;
@@ -87,8 +96,11 @@ impl fmt::Display for Case {
             Call::Run { entries, vars, budget, chunk_limit, status_len, hints_len, log_len } => {
                 writeln!(f, "vars {vars}\nbudget {budget}\nchunk_limit {chunk_limit}")?;
                 writeln!(f, "status_len {status_len}\nhints_len {hints_len}\nlog_len {log_len}")?;
-                let list: Vec<String> = entries.iter().map(i32::to_string).collect();
-                writeln!(f, "entries {}", list.join(" "))
+                writeln!(f, "entries {}", joined(entries))
+            }
+            Call::Why { entries, vars, literal, budget, marks_len, values_len } => {
+                writeln!(f, "vars {vars}\nliteral {literal}\nbudget {budget}\nmarks_len {marks_len}\nvalues_len {values_len}")?;
+                writeln!(f, "entries {}", joined(entries))
             }
         }
     }
@@ -103,18 +115,27 @@ impl FromStr for Case {
         fn number<T: FromStr>(word: &str) -> Result<T, String> {
             word.parse().map_err(|_| format!("'{word}' is not such a number"))
         }
+        let entries = || word("entries")?.split_whitespace().map(number).collect::<Result<Vec<i32>, _>>();
         let text = || unescaped(word("text")?).ok_or("the text is malformed".to_string());
         let call = match word("call")? {
             "read" => Call::Read { text: text()?, room: number(word("room")?)? },
             "table" => Call::Table { text: text()?, room: number(word("room")?)? },
             "run" => Call::Run {
-                entries: word("entries")?.split_whitespace().map(number).collect::<Result<_, _>>()?,
+                entries: entries()?,
                 vars: number(word("vars")?)?,
                 budget: number(word("budget")?)?,
                 chunk_limit: number(word("chunk_limit")?)?,
                 status_len: number(word("status_len")?)?,
                 hints_len: number(word("hints_len")?)?,
                 log_len: number(word("log_len")?)?,
+            },
+            "why" => Call::Why {
+                entries: entries()?,
+                vars: number(word("vars")?)?,
+                literal: number(word("literal")?)?,
+                budget: number(word("budget")?)?,
+                marks_len: number(word("marks_len")?)?,
+                values_len: number(word("values_len")?)?,
             },
             other => return Err(format!("no call '{other}'")),
         };

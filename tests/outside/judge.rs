@@ -6,6 +6,7 @@ use crate::case::{Call, Case, MAX_TABLE};
 use crate::raw;
 use crate::rules::{self, Given};
 use crate::texts::Random;
+use crate::why::{self, WhyGiven};
 
 const GUARD: usize = 8;
 /// Up to so many variables all models are tried too.
@@ -28,11 +29,12 @@ struct Buffer {
 pub fn faults() -> Vec<String> {
     let mut all: Vec<String> = ["answer", "place", "vars", "clauses", "count"].map(|n| format!("read.{n}")).to_vec();
     all.extend(["answer", "place", "calls", "tries", "forced", "free"].map(|n| format!("run.{n}")));
+    all.extend(["answer", "place", "calls", "tries"].map(|n| format!("why.{n}")));
     all.push("table.length".to_string());
-    for name in ["read.entries", "run.status", "run.hints", "run.log", "table.out"] {
+    for name in ["read.entries", "run.status", "run.hints", "run.log", "why.marks", "why.values", "table.out"] {
         all.extend(["before", "first", "last", "behind"].map(|place| format!("{name}.{place}")));
     }
-    for name in ["read.text", "run.list", "run.models", "table.text"] {
+    for name in ["read.text", "run.list", "run.models", "why.list", "table.text"] {
         all.extend(["first", "last"].map(|place| format!("{name}.{place}")));
     }
     all
@@ -189,6 +191,37 @@ fn models_say(g: &Given, answer: u32, marked: &[u8]) -> Vec<u8> {
     }
 }
 
+fn why(r: &mut Random, g: &WhyGiven) -> (Seen, Seen) {
+    let (mut got, mut want) = (Seen::default(), Seen::default());
+    let marks_before = painted(r, g.marks_len, |x| x as u8);
+    let values_before = painted(r, g.values_len, |x| x as u8);
+    let (mut marks, mut values) = (marks_before.clone(), values_before.clone());
+    let lent = Box::<[i32]>::from(g.entries);
+    let (m, v) = (&mut marks[GUARD..GUARD + g.marks_len], &mut values[GUARD..GUARD + g.values_len]);
+    let x = raw::why(&lent, g.vars, g.literal, g.budget, m, v);
+    let (numbers, new_marks, new_values) = match why::why(g) {
+        Err((answer, place)) => ([answer as usize, place, 0, 0], Vec::new(), Vec::new()),
+        Ok(w) => ([w.answer as usize, 0, w.calls as usize, w.tries as usize], w.marks, w.values),
+    };
+    let names = ["why.answer", "why.place", "why.calls", "why.tries"];
+    for ((name, x), n) in names.into_iter().zip([x.answer, x.place, x.calls, x.tries]).zip(numbers) {
+        got.number(name, x);
+        want.number(name, n as i64);
+    }
+    got.buffer("why.marks", &marks, new_marks.len());
+    want.buffer("why.marks", &written(&marks_before, &new_marks), new_marks.len());
+    got.buffer("why.values", &values, new_values.len());
+    want.buffer("why.values", &written(&values_before, &new_values), new_values.len());
+    kept("why.list", g.entries, &lent, &mut got, &mut want);
+    if g.vars <= FEW && x.answer == 0 {
+        let clauses = rules::clauses_of(g.entries).into_iter().zip(&marks[GUARD..]).filter(|(_, &mark)| mark == 1).map(|(c, _)| c);
+        let fault = why::fault_of_kept(&clauses.collect::<Vec<_>>(), |some| why::forces(g.vars as usize, some, g.literal));
+        got.number("why.kept", i64::from(fault.is_some()));
+        want.number("why.kept", 0);
+    }
+    (got, want)
+}
+
 fn table(r: &mut Random, text: &[u8], room: usize) -> (Seen, Seen) {
     let (mut got, mut want) = (Seen::default(), Seen::default());
     let before = painted(r, room, |x| x as u8);
@@ -212,6 +245,9 @@ pub fn judge(case: &Case, fault: Option<&str>) -> (i64, Option<String>) {
         Call::Read { text, room } => read(&mut r, text, *room),
         &Call::Run { ref entries, vars, budget, chunk_limit, status_len, hints_len, log_len } => {
             run(&mut r, &Given { entries, vars, budget, chunk_limit, status_len, hints_len, log_len })
+        }
+        &Call::Why { ref entries, vars, literal, budget, marks_len, values_len } => {
+            why(&mut r, &WhyGiven { entries, vars, literal, budget, marks_len, values_len })
         }
         Call::Table { text, room } => table(&mut r, text, *room),
     };

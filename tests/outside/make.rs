@@ -3,6 +3,7 @@
 use crate::case::{Call, MAX_TABLE};
 use crate::rules::{self, Given, MAX_CLAUSES, MAX_ENTRIES, MAX_TEXT, MAX_VARS};
 use crate::texts::{random_text, text_of, with_comments, with_percent, Random};
+use crate::why::{self, WhyGiven};
 
 const LIMITS: [u32; 5] = [1, 2, 3, 16, 256];
 
@@ -78,12 +79,32 @@ fn edge_lists() -> Vec<(Vec<i32>, u32)> {
     lists
 }
 
+/// A question with exact buffers.
+fn exact_why(entries: Vec<i32>, vars: u32, literal: i32, budget: u32) -> Call {
+    Call::Why { entries, vars, literal, budget, marks_len: MAX_CLAUSES, values_len: vars as usize }
+}
+
+/// Why, for a list in buffers of every interesting length, with literals at the edges.
+fn edge_whys(list: &[i32], vars: u32, calls: &mut Vec<Call>) {
+    let vs = vars.min(300) as usize;
+    let above = vars.min(300) as i32 + 1;
+    let lengths = [(1_024, vs), (1_030, vs + 5), (1_023, vs), (1_024, vs.max(1) - 1), (0, 0)];
+    for (marks_len, values_len) in lengths {
+        for literal in [1, -1, 0, above, -above, vars.min(300) as i32, i32::MIN, i32::MAX] {
+            for budget in [100, 0] {
+                calls.push(Call::Why { entries: list.to_vec(), vars, literal, budget, marks_len, values_len });
+            }
+        }
+    }
+}
+
 pub fn edges() -> Vec<Call> {
     let mut calls = Vec::new();
     for text in edge_texts() {
         in_all_rooms(&text, &mut calls);
     }
     for (list, vars) in edge_lists() {
+        edge_whys(&list, vars, &mut calls);
         // the longest buffers that a run could ask for, and a little more, where the variables are too many
         let (vs, log) = (vars.min(300) as usize, log_of(vars.min(300)));
         let less = vs.max(1) - 1;
@@ -152,6 +173,62 @@ fn every_budget(r: &mut Random, calls: &mut Vec<Call>) {
             calls.push(call);
         }
     }
+}
+
+/// A small formula, all of its literals and every budget from none to more than enough.
+fn every_literal(r: &mut Random, calls: &mut Vec<Call>) {
+    let vars = 1 + r.below(8) as u32;
+    let clauses = r.below(4 * u64::from(vars) + 3);
+    let entries = random_list(r, vars, clauses);
+    for literal in (1..=vars as i32).flat_map(|v| [v, -v]) {
+        let (marks_len, values_len) = (MAX_CLAUSES, vars as usize);
+        let given = WhyGiven { entries: &entries, vars, literal, budget: u32::MAX, marks_len, values_len };
+        let needed = why::why(&given).expect("the list keeps the rules").tries as u32;
+        for budget in (0..=needed + 1).step_by(1 + needed as usize / 8).chain([needed, u32::MAX]) {
+            let mut call = exact_why(entries.clone(), vars, literal, budget);
+            if let Call::Why { marks_len, values_len, .. } = &mut call {
+                stretch(r, marks_len);
+                stretch(r, values_len);
+            }
+            calls.push(call);
+        }
+    }
+}
+
+/// A larger question, under a small budget.
+fn large_why(r: &mut Random) -> Call {
+    let vars = 12 + r.below(60) as u32;
+    let clauses = 1 + r.below(4 * u64::from(vars));
+    let entries = random_list(r, vars, clauses);
+    let literal = (1 + r.below(vars.into()) as i32) * if r.below(2) == 0 { 1 } else { -1 };
+    exact_why(entries, vars, literal, r.below(2_000) as u32)
+}
+
+/// A question with one or two things changed so that it may be refused.
+fn refused_why(r: &mut Random) -> Call {
+    let vars = if r.below(4) == 0 { r.below(257) as u32 } else { r.below(6) as u32 };
+    let clauses = r.below(8);
+    let list = random_list(r, vars, clauses);
+    let mut call = exact_why(list, vars, 1 + r.below(3) as i32, r.below(50) as u32);
+    for _ in 0..=r.below(2) {
+        let Call::Why { entries, vars, literal, marks_len, values_len, .. } = &mut call else { unreachable!("it is a why") };
+        match r.below(8) {
+            0 => *vars = one_of(r, &[257, 258, 1 << 16, 1 << 31, u32::MAX]),
+            1 => *marks_len = r.below(*marks_len as u64 + 1) as usize,
+            2 => *values_len = r.below(*values_len as u64 + 1) as usize,
+            3 => {
+                entries.pop();
+            }
+            4 => entries.push(1 + r.below(3) as i32),
+            5 => {
+                let above = (*vars).min(300) as i32 + 1;
+                let at = r.below(entries.len() as u64 + 1) as usize;
+                entries.insert(at, one_of(r, &[above, -above, i32::MIN, i32::MAX]));
+            }
+            _ => *literal = one_of(r, &[0, (*vars).min(300) as i32 + 1, -1 - (*vars).min(300) as i32, i32::MIN, i32::MAX]),
+        }
+    }
+    call
 }
 
 /// Now and then a length that is longer, or short by one.
@@ -314,8 +391,11 @@ pub fn random_calls(r: &mut Random) -> Vec<Call> {
     let mut calls = Vec::new();
     match r.below(64) {
         0 => calls.push(large(r)),
-        x if x < 16 => every_budget(r, &mut calls),
-        x if x < 32 => calls.push(refused(r)),
+        1 => calls.push(large_why(r)),
+        x if x < 12 => every_budget(r, &mut calls),
+        x if x < 16 => every_literal(r, &mut calls),
+        x if x < 26 => calls.push(refused(r)),
+        x if x < 32 => calls.push(refused_why(r)),
         _ => some_text(r, &mut calls),
     }
     calls

@@ -18,6 +18,8 @@ mod rules;
 mod shrink;
 #[path = "../reference/texts.rs"]
 mod texts;
+#[path = "../reference/why.rs"]
+mod why;
 
 use std::collections::BTreeMap;
 use std::process::ExitCode;
@@ -28,7 +30,11 @@ use judge::judge;
 use texts::Random;
 
 /// The answers that must have been given at least once.
-const ANSWERS: [(&str, &[i64]); 2] = [("read", &[0, 1, 2, 3, 4, 5, 6, 7, 8, 9]), ("run", &[0, 1, 10, 11, 12, 20, 21])];
+const ANSWERS: [(&str, &[i64]); 3] = [
+    ("read", &[0, 1, 2, 3, 4, 5, 6, 7, 8, 9]),
+    ("run", &[0, 1, 10, 11, 12, 20, 21]),
+    ("why", &[0, 1, 10, 11, 12, 13, 20, 21, 22]),
+];
 
 /// What was judged so far: how often each answer was given.
 struct Judged<'a> {
@@ -65,7 +71,7 @@ impl Judged<'_> {
 
     /// Prints how often each answer was given; false if one is missing.
     fn is_whole(&self) -> bool {
-        for call in ["read", "run"] {
+        for call in ["read", "run", "why"] {
             let line: Vec<String> = self.given.iter().filter(|(k, _)| k.0 == call).map(|(k, n)| format!("{} {n} times", k.1)).collect();
             println!("{call} answered {}", line.join(", "));
         }

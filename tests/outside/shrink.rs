@@ -53,6 +53,17 @@ fn smaller(call: &Call) -> Vec<Call> {
     match call {
         Call::Read { text, room } => smaller_texts(text).into_iter().map(|text| Call::Read { text, room: *room }).collect(),
         Call::Table { text, room } => smaller_texts(text).into_iter().map(|text| Call::Table { text, room: *room }).collect(),
+        Call::Why { entries, vars, literal, budget, marks_len, values_len } => {
+            let (vars, literal, budget, marks_len, values_len) = (*vars, *literal, *budget, *marks_len, *values_len);
+            // the literal stays, and so do the variables
+            let with = |entries: Vec<i32>, budget| Call::Why { entries, vars, literal, budget, marks_len, values_len };
+            let mut all: Vec<Call> = cuts(&clauses_of(entries)).into_iter().map(|cs| with(cs.concat(), budget)).collect();
+            for fewer in [0, budget / 2, budget.saturating_sub(1)].into_iter().filter(|&b| b < budget) {
+                all.push(with(entries.clone(), fewer));
+            }
+            all.extend(cuts(entries).into_iter().map(|list| with(list, budget)));
+            all
+        }
         Call::Run { entries, vars, budget, chunk_limit, status_len, hints_len, log_len } => {
             let (vars, budget, chunk_limit) = (*vars, *budget, *chunk_limit);
             // with fewer variables the buffers have as much room behind as before

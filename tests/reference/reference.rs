@@ -7,9 +7,15 @@
 //!   reference --against PROGRAM FILE...  PROGRAM must print the same for each file, and what all models say where there are at
 //!                                        most 20 variables
 //!   reference --random PROGRAM SEED N    the same for N texts made from SEED: formulas, and texts with a byte or two changed
+//!   reference --why PROGRAM FILE...      PROGRAM, started with a literal, must print why it is forced as `why.rs` does, for some literals of
+//!                                        each file; what is kept is tried with all assignments where there are at most 10 variables
+//!   reference --why-random PROGRAM SEED N     the same for N texts made from SEED
+//!   reference --why-solver SOLVER SEED N      for N formulas made from SEED: SOLVER must find that what is kept forces, and without one
+//!                                             does not
 
 mod rules;
 mod texts;
+mod why;
 
 use std::env;
 use std::fmt::Write as _;
@@ -19,11 +25,12 @@ use std::process::{Command, ExitCode, Stdio};
 
 use rules::{by_models, clauses_of, read, run_of, status_lines, table, Formula};
 use texts::{random_text, text_of, Random};
+use why::{fault_of_kept, forces, WhyGiven};
 
 // ---- against the program
 
-fn printed(program: &str, text: &[u8]) -> std::io::Result<Vec<u8>> {
-    let mut child = Command::new(program).stdin(Stdio::piped()).stdout(Stdio::piped()).spawn()?;
+fn printed(program: &str, words: &[String], text: &[u8]) -> std::io::Result<Vec<u8>> {
+    let mut child = Command::new(program).args(words).stdin(Stdio::piped()).stdout(Stdio::piped()).spawn()?;
     // a program that has read all that it needs may close its end
     let _ = child.stdin.take().expect("it is piped").write_all(text);
     Ok(child.wait_with_output()?.stdout)
@@ -31,7 +38,7 @@ fn printed(program: &str, text: &[u8]) -> std::io::Result<Vec<u8>> {
 
 /// What is wrong with the program's table for a text, if anything.
 fn difference(program: &str, text: &[u8]) -> Option<String> {
-    let got = match printed(program, text) {
+    let got = match printed(program, &[], text) {
         Err(e) => return Some(format!("{program}: {e}")),
         Ok(bytes) => String::from_utf8_lossy(&bytes).into_owned(),
     };
@@ -110,6 +117,139 @@ fn against_solver(solver: &str, texts: &[(String, Vec<u8>)]) -> std::io::Result<
     }
     println!("{} texts against {solver}, {wrong} differ", texts.len());
     Ok(if wrong == 0 { ExitCode::SUCCESS } else { ExitCode::FAILURE })
+}
+
+// ---- why a literal is forced
+
+/// The clauses that are kept for a literal of a formula, if it is forced.
+fn kept_of(f: &Formula, literal: i32) -> Option<Vec<rules::Clause>> {
+    let (vars, marks_len, values_len) = (f.vars as u32, rules::MAX_CLAUSES, f.vars);
+    let w = why::why(&WhyGiven { entries: &f.entries, vars, literal, budget: 1_000_000, marks_len, values_len }).ok()?;
+    let kept = clauses_of(&f.entries).into_iter().zip(&w.marks).filter(|(_, &mark)| mark == 1).map(|(c, _)| c);
+    (w.answer == 0).then(|| kept.collect())
+}
+
+/// What is printed for a text and a literal.
+fn why_text(text: &[u8], literal: i32) -> String {
+    let refused = |(number, place): rules::Refusal| format!("refused {number} place {place}\n");
+    let f = match read(text) {
+        Err(refusal) => return refused(refusal),
+        Ok(f) => f,
+    };
+    let (vars, marks_len, values_len) = (f.vars as u32, rules::MAX_CLAUSES, f.vars);
+    let w = match why::why(&WhyGiven { entries: &f.entries, vars, literal, budget: 1_000_000, marks_len, values_len }) {
+        Err(refusal) => return refused(refusal),
+        Ok(w) => w,
+    };
+    let kept = w.marks.iter().filter(|&&m| m == 1).count();
+    let mut out = format!("answer {} calls {} tries {} kept {kept}\n", w.answer, w.calls, w.tries);
+    for (i, clause) in f.entries.split_inclusive(|&e| e == 0).enumerate().filter(|&(i, _)| w.marks[i] == 1) {
+        write!(out, "clause {}:", i + 1).expect("a string takes every byte");
+        for l in &clause[..clause.len() - 1] {
+            write!(out, " {l}").expect("a string takes every byte");
+        }
+        out.push('\n');
+    }
+    if w.answer == 22 {
+        let literals: Vec<String> = (1..).zip(&w.values).map(|(v, &b)| if b == 1 { format!("{v}") } else { format!("-{v}") }).collect();
+        writeln!(out, "{}", literals.join(" ")).expect("a string takes every byte");
+    }
+    out
+}
+
+/// What is wrong with what the program prints for a text and a literal, if anything.
+fn why_difference(program: &str, text: &[u8], literal: i32) -> Option<String> {
+    let got = match printed(program, &[literal.to_string()], text) {
+        Err(e) => return Some(format!("{program}: {e}")),
+        Ok(bytes) => String::from_utf8_lossy(&bytes).into_owned(),
+    };
+    let expected = why_text(text, literal);
+    if got != expected {
+        return Some(format!("expected\n{expected}but it printed\n{got}"));
+    }
+    let f = read(text).ok().filter(|f| f.vars <= 10)?;
+    fault_of_kept(&kept_of(&f, literal)?, |clauses| forces(f.vars, clauses, literal))
+}
+
+/// Literals to ask about: those that the run finds forced, up to three, the other sign of the last, a free one, 0 and one above V.
+fn literals_of(text: &[u8]) -> Vec<i32> {
+    let Ok(f) = read(text) else { return vec![1] };
+    let r = run_of(&f);
+    let signed = (1..).zip(&r.status).filter_map(|(v, &s): (i32, _)| match s {
+        2 => Some(v),
+        3 => Some(-v),
+        _ => None,
+    });
+    let mut literals: Vec<i32> = signed.take(3).collect();
+    literals.extend(literals.last().map(|l| -l));
+    literals.extend((1..).zip(&r.status).find(|(_, &s)| s == 1).map(|(v, _): (i32, _)| -v));
+    literals.extend([0, f.vars as i32 + 1]);
+    literals
+}
+
+fn why_against(program: &str, texts: &[(String, Vec<u8>)]) -> ExitCode {
+    let (mut asked, mut wrong) = (0, 0);
+    for (name, text) in texts {
+        for literal in literals_of(text) {
+            asked += 1;
+            if let Some(what) = why_difference(program, text, literal) {
+                println!("{name}, literal {literal}: {what}");
+                wrong += 1;
+            }
+        }
+    }
+    println!("{} texts, {asked} literals, {wrong} differ", texts.len());
+    if wrong == 0 { ExitCode::SUCCESS } else { ExitCode::FAILURE }
+}
+
+/// A formula at random with a model, and with so many short clauses that some literal is forced, most often by several of them.
+fn random_formula(r: &mut Random) -> Formula {
+    let vars = 3 + r.below(30);
+    let model: Vec<bool> = (0..vars).map(|_| r.below(2) == 0).collect();
+    let signed = |v: u64, on: bool| if on { v as i32 + 1 } else { -(v as i32) - 1 };
+    let mut clauses: Vec<Vec<i32>> = Vec::new();
+    for _ in 0..2 * vars + r.below(2 * vars) {
+        let first = r.below(vars);
+        let mut clause = vec![signed(first, model[first as usize])];
+        for _ in 0..1 + r.below(2) {
+            let on = r.below(4) == 0;
+            let v = r.below(vars);
+            clause.push(signed(v, model[v as usize] == on));
+        }
+        clauses.push(clause);
+    }
+    read(text_of(vars as i32, &clauses).as_bytes()).expect("it is written by the rules")
+}
+
+fn why_solver(solver: &str, seed: u64, n: u64) -> std::io::Result<ExitCode> {
+    let mut r = Random::of_seed(seed);
+    let (mut formulas, mut kept_clauses, mut wrong) = (0, 0, 0);
+    while formulas < n {
+        let f = random_formula(&mut r);
+        let asked = literals_of(text_of(f.vars as i32, &lists_of(&f)).as_bytes());
+        let Some((literal, kept)) = asked.into_iter().find_map(|l| Some((l, kept_of(&f, l)?))) else { continue };
+        formulas += 1;
+        kept_clauses += kept.len();
+        let mut failed = None;
+        let fault = fault_of_kept(&kept, |clauses| {
+            let entries = clauses.iter().flat_map(|c| c.iter().copied().chain([0])).collect();
+            let part = Formula { vars: f.vars, clauses: clauses.len(), entries };
+            is_satisfiable(solver, &part, -literal).map_or_else(|e| failed.replace(e).is_some(), |some| !some)
+        });
+        if let Some(e) = failed {
+            return Err(e);
+        }
+        if let Some(what) = fault {
+            println!("formula {formulas}, literal {literal}: {solver} says that {what}");
+            wrong += 1;
+        }
+    }
+    println!("{formulas} formulas with {kept_clauses} clauses kept against {solver}, {wrong} differ");
+    Ok(if wrong == 0 { ExitCode::SUCCESS } else { ExitCode::FAILURE })
+}
+
+fn lists_of(f: &Formula) -> Vec<Vec<i32>> {
+    f.entries.split_inclusive(|&e| e == 0).map(|c| c[..c.len() - 1].to_vec()).collect()
 }
 
 // ---- families
@@ -196,12 +336,18 @@ fn against(program: &str, texts: &[(String, Vec<u8>)]) -> ExitCode {
 fn main() -> ExitCode {
     let args: Vec<String> = env::args().skip(1).collect();
     let done = match args.iter().map(String::as_str).collect::<Vec<_>>()[..] {
-        ["--random", program, seed, n] => {
+        [word @ ("--random" | "--why-random" | "--why-solver"), program, seed, n] => {
             let (Ok(seed), Ok(n)) = (seed.parse::<u64>(), n.parse::<u64>()) else {
                 eprintln!("SEED and N are numbers");
                 return ExitCode::FAILURE;
             };
             println!("seed {seed}");
+            if word == "--why-solver" {
+                return why_solver(program, seed, n).unwrap_or_else(|e| {
+                    eprintln!("{e}");
+                    ExitCode::FAILURE
+                });
+            }
             let mut r = Random::of_seed(seed);
             let texts: Vec<_> = (0..n)
                 .map(|i| {
@@ -209,8 +355,9 @@ fn main() -> ExitCode {
                     (format!("text {i}, {:?}", String::from_utf8_lossy(&text)), text)
                 })
                 .collect();
-            return against(program, &texts);
+            return if word == "--random" { against(program, &texts) } else { why_against(program, &texts) };
         }
+        ["--why", program, ..] => files_of(&args[2..]).map(|texts| why_against(program, &texts)),
         ["--against", program, ..] => files_of(&args[2..]).map(|texts| against(program, &texts)),
         ["--solver", solver, ..] => files_of(&args[2..]).and_then(|texts| against_solver(solver, &texts)),
         ["--families", folder] => families(folder),

@@ -136,7 +136,7 @@ pub fn read(text: &[u8]) -> Result<Formula, Refusal> {
 // ---- the search
 
 pub type Clause = BTreeSet<i32>;
-type Values = Vec<Option<bool>>;
+pub type Values = Vec<Option<bool>>;
 
 pub fn clauses_of(entries: &[i32]) -> Vec<Clause> {
     let mut all = Vec::new();
@@ -179,18 +179,18 @@ fn close(clauses: &[Clause], values: &mut Values) -> bool {
     }
 }
 
-enum End {
+pub enum End {
     Model(Vec<bool>),
     None,
     Stopped,
 }
 
-struct Meter {
-    budget: u64,
-    spent: u64,
+pub struct Meter {
+    pub budget: u64,
+    pub spent: u64,
 }
 
-fn go_on(clauses: &[Clause], mut values: Values, meter: &mut Meter) -> End {
+pub fn go_on(clauses: &[Clause], mut values: Values, meter: &mut Meter) -> End {
     if !close(clauses, &mut values) {
         return End::None;
     }
@@ -253,6 +253,11 @@ fn refusal(g: &Given) -> Option<Refusal> {
     if g.status_len < vars || g.hints_len < vars || g.log_len < 6 * (vars + 1) {
         return Some((1, 0));
     }
+    list_refusal(es, g.vars)
+}
+
+/// Why a list is refused, if it is.
+pub fn list_refusal(es: &[i32], vars: u32) -> Option<Refusal> {
     if es.len() > MAX_ENTRIES {
         return Some((11, MAX_ENTRIES));
     }
@@ -263,14 +268,14 @@ fn refusal(g: &Given) -> Option<Refusal> {
     if let Some(i) = zeros.skip(MAX_CLAUSES).next() {
         return Some((11, i));
     }
-    es.iter().position(|e| e.unsigned_abs() > g.vars).map(|i| (12, i))
+    es.iter().position(|e| e.unsigned_abs() > vars).map(|i| (12, i))
 }
 
 fn is_true(clause: &Clause, model: &[bool]) -> bool {
     clause.iter().any(|&l| model[l.unsigned_abs() as usize - 1] == (l > 0))
 }
 
-fn holds(clauses: &[Clause], model: &[bool]) -> bool {
+pub fn holds(clauses: &[Clause], model: &[bool]) -> bool {
     clauses.iter().all(|c| is_true(c, model))
 }
 

@@ -1,2 +1,4 @@
 pub mod FillLaws
 pub mod PutLaws
+pub mod PieceLaws
+pub mod RoomLaws

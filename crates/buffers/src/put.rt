@@ -1,6 +1,7 @@
 // Bytes, words and numbers put into a buffer at a cursor: each function answers the cursor behind what it put.
 ghost use mathlib.Core.List.{[], _∷_, _++_};
 ghost use Rattle.rules.specs.Plain.{decimal};
+ghost use Rattle.rules.specs.ModelLine.{signed};
 ghost use Rattle.buffers.specs.Put.{Put, Room};
 
 // One byte.
@@ -41,6 +42,20 @@ pub fn put_decimal(out: &mut [u8], at: usize, n: usize) -> usize
     }
     let next = put_decimal(out, at, n / 10);
     put_byte(out, next, 48 + (n % 10) as u8)
+}
+
+// A number with its sign: a minus in front if it is negative.
+// Rules out: the minus left out; a plus in front of 3.
+// Required of: lines::model::put_literal and why_printed::line::put_spaced, whose room is the whole line's.
+pub fn put_signed(out: &mut [u8], at: usize, negative: bool, n: usize) -> usize
+    requires { ⌜ Room at (signed negative n) (now out) ⌝ }
+    ensures { λ r. ⌜ Put at (signed negative n) (now (out .entry)) r (now (out .exit)) ⌝ }
+{
+    if negative {
+        let next = put_byte(out, at, 45);
+        return put_decimal(out, next, n);
+    }
+    put_decimal(out, at, n)
 }
 
 // A word and the number behind it.

@@ -16,7 +16,7 @@ pub fn sign(l: Lit) -> bool
 
 // The literal of the same variable with the other sign.
 // Rules out: -3 for -3; 0 for 3.
-// Required of: steps::constraint::false_literal, whose variable is at most 256.
+// Required of: steps::constraint::false_literal, whose variable is at most 256; reason::call::false_call, after 13.
 pub fn negated(l: Lit) -> Lit
     requires { ⌜ HasNegation (l .0) ⌝ }
     ensures { λ r. ⌜ r .0 ≡ negated (l .0) ⌝ }

@@ -1,4 +1,5 @@
 -- From the promises of the crates below to those in numbers.
+--   refused-place        the place of a refused run
 --   reads-fit runs-fit   places and counts fit the fields of the structs
 --   reads-in runs-in     what is returned in numbers, with the buffers as they were left
 -- Assumes nothing.
@@ -44,7 +45,7 @@ reads-fit {text = text} {before = before} {r = r} d = go (judge (length before) 
 
 -- ---- a run
 
-refused-place : {g : Given} {a : Refusal} → RunRefuses g a → refusalPlace a ≤ maxEntries
+pub refused-place : {g : Given} {a : Refusal} → RunRefuses g a → refusalPlace a ≤ maxEntries
 refused-place (bad-limits h) = omega arith
 refused-place (short-buffer w h) = omega arith
 refused-place (list-long w h) = omega arith

@@ -1,2 +1,4 @@
 pub mod FitLaws
 pub mod Promises
+pub mod WhyFit
+pub mod WhyPromises

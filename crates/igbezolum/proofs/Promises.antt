@@ -90,7 +90,8 @@ refusalOfNumber n at =
     cond (eqb n 1) Refusal.ShortBuffer
     (cond (eqb n 10) Refusal.BadLimits
     (cond (eqb n 11) (Refusal.BadList at)
-    (Refusal.EntryOverVars at)))
+    (cond (eqb n 12) (Refusal.EntryOverVars at)
+    (Refusal.BadLiteral at))))
 
 abbrev pub runAnswer : ℕ → ℕ → RunAnswer
 runAnswer n at =
@@ -107,6 +108,7 @@ runAnswer-numbers (RunAnswer.Refused Refusal.ShortBuffer) = refl
 runAnswer-numbers (RunAnswer.Refused Refusal.BadLimits) = refl
 runAnswer-numbers (RunAnswer.Refused (Refusal.BadList at)) = refl
 runAnswer-numbers (RunAnswer.Refused (Refusal.EntryOverVars at)) = refl
+runAnswer-numbers (RunAnswer.Refused (Refusal.BadLiteral at)) = refl
 
 -- ---- and so the promise below
 

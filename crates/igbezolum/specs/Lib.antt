@@ -1,2 +1,3 @@
 -- What the exported functions promise. Assumes nothing.
 pub mod Linked
+pub mod WhyLinked

@@ -1,5 +1,7 @@
-// The functions that C and Rust link (libigbezolum.a): the reader, the run and the printed table, each thin over its crate. They answer
-// in the numbers of docs/RULES.md, "What comes back"; include/igbezolum.h is the page for their callers.
+// The functions that C and Rust link (libigbezolum.a): the reader, the run, why a literal is forced and the printed table, each thin over
+// its crate. They answer in the numbers of docs/RULES.md, "What comes back"; include/igbezolum.h is the page for their callers.
+pub mod why;
+
 ghost use mathlib.Core.Path.{_≡_};
 ghost use Prim.Native.Nat.{_≤_};
 ghost use Rattle.rules.specs.Numbers.{maxEntries, runPlace};

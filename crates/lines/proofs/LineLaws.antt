@@ -1,27 +1,23 @@
--- The laws of lines: field behind field they are those of docs/RULES.md, "The printed table", and a line a variable is put one
--- behind the other.
+-- The laws of lines: field behind field they are those of docs/RULES.md, "The printed table", and a line a variable is a piece.
 --
 --   refused-line, answer-line     the fields as they are put are the line
 --   words-off         what a status above 2 says
---   lines-more        the line of a variable, then those of the others
---   lining-start, lining-room, lining-step, lining-done      a line a variable
+--   linePiece, lines-pieces, line-at     a line a variable, as pieces
 --
 -- Assumes nothing.
 use mathlib.Core.Path.{_≡_, refl, sym, _∙_, ap}
 use mathlib.Core.List.{List, [], _∷_, _++_, append-assoc}
-use Prim.Native.Nat.{ℕ, zero, suc, pred, _+_, _-_, _≤_, _<_}
+use Prim.Native.Nat.{ℕ, zero, suc, pred, _+_, _-_, _≤_}
 use native.Mathlib.Omega.{arith}
 use native.Mathlib.Numerals.{add-one}
-use lib.ListN.{length, getD, drop, drop-of-length-le}
-use lib.Seq.{drop-cons}
+use lib.ListN.{getD}
 use Rattle.rules.specs.declared.Report.{Report}
+use Rattle.rules.specs.Lists.{pieces}
 use Rattle.rules.specs.Numbers.{runNumber}
 use Rattle.rules.specs.Plain.{decimal}
 use Rattle.rules.specs.Printed.{answerWord, callsWord, triesWord, forcedWord, freeWord, openWord, offWord, heldWord}
 use Rattle.rules.specs.Printed.{refusedWord, placeWord, refusedLine, answerLine, statusWords, statusLines}
-use Rattle.buffers.specs.Put.{Room, Put}
 use Rattle.lines.specs.Lines.{countFields, endFields, refusedFields, statusLine}
-use Rattle.buffers.proofs.PutLaws.{length-put, room-first, room-then, room-same, put-then, put-same, put-none}
 
 -- ---- fields
 
@@ -57,48 +53,14 @@ lines-cons v s ss hs =
     ap (λ (xs : List ℕ). decimal v ++ xs) (sym (append-assoc words (10 ∷ []) (statusLines (suc v) ss hs))) ∙
     sym (append-assoc (decimal v) (words ++ 10 ∷ []) (statusLines (suc v) ss hs))
 
--- the lines from the variable behind the index i on
-abbrev linesFrom : ℕ → List ℕ → List ℕ → List ℕ
-linesFrom i ss hs = statusLines (suc i) (drop i ss) hs
+-- the line of a variable, whose hint is looked up by its number
+abbrev pub linePiece : List ℕ → ℕ → ℕ → List ℕ
+linePiece hs v s = statusLine v s (getD hs (pred v) 0)
 
--- the line at an index
-abbrev lineAt : ℕ → List ℕ → List ℕ → List ℕ
-lineAt i ss hs = statusLine (i + 1) (getD ss i 0) (getD hs i 0)
+pub lines-pieces : (v : ℕ) (ss hs : List ℕ) → statusLines v ss hs ≡ pieces (linePiece hs) v ss
+lines-pieces v [] hs = refl
+lines-pieces v (s ∷ ss) hs = lines-cons v s ss hs ∙ ap (λ (xs : List ℕ). linePiece hs v s ++ xs) (lines-pieces (suc v) ss hs)
 
-pub lines-more : (ss hs : List ℕ) (i : ℕ) → i < length ss → linesFrom i ss hs ≡ lineAt i ss hs ++ linesFrom (i + 1) ss hs
-lines-more ss hs i h =
-    ap (λ (xs : List ℕ). statusLines (suc i) xs hs) (drop-cons ss i 0 h) ∙
-    lines-cons (suc i) (getD ss i 0) (drop (suc i) ss) hs ∙
-    ap (λ (k : ℕ). statusLine k (getD ss i 0) (getD hs i 0) ++ statusLines (suc k) (drop k ss) hs) (sym (add-one i))
-
--- ---- a line a variable: the first i are put, and with the others behind them all are
-
-pub record Lining (ss hs : List ℕ) (at : ℕ) (before : List ℕ) (i next : ℕ) (out : List ℕ) : Type 0 where
-  pub within : i ≤ length ss
-  pub len : length out ≡ length before
-  pub room : Room next (linesFrom i ss hs) out
-  pub rest : (last : ℕ) (after : List ℕ) → Put next (linesFrom i ss hs) out last after → Put at (statusLines 1 ss hs) before last after
-
-pub lining-start : {ss hs : List ℕ} {at : ℕ} {before : List ℕ} → Room at (statusLines 1 ss hs) before → Lining ss hs at before 0 at before
-lining-start w = record { within = omega arith; len = refl; room = w; rest = λ last after p. p }
-
-module _ {ss hs : List ℕ} {at : ℕ} {before : List ℕ} {i next : ℕ} {out : List ℕ} (w : Lining ss hs at before i next out) (h : i < length ss) where
-  both-room : Room next (lineAt i ss hs ++ linesFrom (i + 1) ss hs) out
-  both-room = room-same (lines-more ss hs i h) (w .room)
-
-  pub lining-room : Room next (lineAt i ss hs) out
-  lining-room = room-first (lineAt i ss hs) (linesFrom (i + 1) ss hs) both-room
-
-  pub lining-step : {next′ : ℕ} {out′ : List ℕ} → Put next (lineAt i ss hs) out next′ out′ → Lining ss hs at before (i + 1) next′ out′
-  lining-step p =
-      record {
-        within = omega arith;
-        len = length-put p ∙ w .len;
-        room = room-then (lineAt i ss hs) (linesFrom (i + 1) ss hs) both-room p;
-        rest = λ last after q. w .rest last after (put-same (sym (lines-more ss hs i h)) (put-then p q));
-      }
-
-pub lining-done : {ss hs : List ℕ} {at : ℕ} {before : List ℕ} {i next : ℕ} {out : List ℕ}
-    → Lining ss hs at before i next out → length ss ≤ i → Put at (statusLines 1 ss hs) before next out
-lining-done {ss} {hs} {at} {before} {i} {next} {out} w h =
-    w .rest next out (put-same (sym (ap (λ (xs : List ℕ). statusLines (suc i) xs hs) (drop-of-length-le ss h))) (put-none next out))
+-- by its index
+pub line-at : (hs : List ℕ) (i s : ℕ) → linePiece hs (i + 1) s ≡ statusLine (i + 1) s (getD hs i 0)
+line-at hs i s = rw (add-one i)

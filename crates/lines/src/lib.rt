@@ -1,2 +1,3 @@
-// The lines of a table (docs/RULES.md, "The printed table"), put into a buffer that is lent.
+// Lines (docs/RULES.md, "The printed table" and "The printed reason"), put into a buffer that is lent.
 pub mod line;
+pub mod model;

@@ -22,8 +22,8 @@ pub fn put_refused(out: &mut [u8], at: usize, number: u32, place: usize) -> usiz
 
 // The first three numbers of the answer line.
 // Rules out: calls and tries exchanged; a number left out.
-// Required of: put_answer, whose room is the whole line's.
-fn put_counts(out: &mut [u8], at: usize, number: u32, calls: u32, tries: u32) -> usize
+// Required of: put_answer and why_printed::line::put_first, whose room is the whole line's.
+pub fn put_counts(out: &mut [u8], at: usize, number: u32, calls: u32, tries: u32) -> usize
     requires { ⌜ Room at (countFields number calls tries) (now out) ⌝ }
     ensures { λ r. ⌜ Put at (countFields number calls tries) (now (out .entry)) r (now (out .exit)) ⌝ }
 {

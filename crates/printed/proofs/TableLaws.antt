@@ -12,38 +12,35 @@
 use mathlib.Core.Path.{_≡_, refl, sym, _∙_, ap, ap₂}
 use mathlib.Core.Logic.{_≢_, inl, inr}
 use mathlib.Core.Bool.{Bool, true, false}
-use mathlib.Core.List.{List, [], _∷_, _++_, append-assoc}
-use Prim.Native.Nat.{ℕ, suc, _+_, _-_, _≤_, _<_}
+use mathlib.Core.List.{List, [], _∷_, _++_}
+use Prim.Native.Nat.{ℕ, suc, _+_, _≤_, _<_}
 use native.Mathlib.Omega.{arith}
-use lib.IntN.{ℤ, pos}
+use lib.IntN.{ℤ}
 use lib.Dec.{eqb, leb}
-use lib.ListN.{length, take, drop, replicate, length-append, length-replicate, drop-of-length-le}
-use lib.Seq.{take-append-seam}
-use borrow.Author.Tests.{leb-true, eqb-true, le-leb, lt-leb}
-use Rattle.rules.specs.declared.ReadAnswer.{ReadAnswer}
+use lib.ListN.{length, take, length-replicate, drop-of-length-le}
+use borrow.Author.Tests.{leb-true, eqb-true}
 use Rattle.rules.specs.declared.Reading.{Reading}
 use Rattle.rules.specs.declared.RunAnswer.{RunAnswer}
 use Rattle.rules.specs.declared.Report.{Report}
 use Rattle.rules.specs.Lists.{count, countIf}
 use Rattle.rules.specs.Numbers.{maxEntries, readNumber, readPlace, runNumber}
-use Rattle.rules.specs.Reading.{Judged, accepted, refused, judge, returned, readingOf, written, entriesAfter, Reads}
+use Rattle.rules.specs.Reading.{Reads}
 use Rattle.rules.specs.Run.{run}
 use Rattle.rules.specs.Hints.{hintsOf}
 use Rattle.rules.specs.Answer.{Given, Buffers, given, taskOf, isFree, isForced, reportOfRun, reportOf, statusAfter, hintsAfter, Runs}
-use Rattle.rules.specs.Refusals.{Refuses, short-buffer, long-text, no-header, bad-header, large-header}
-use Rattle.rules.specs.Refusals.{bad-token, token-behind, token-over-vars, many-tokens, short-text}
 use Rattle.rules.specs.RunRefusals.{Accepted}
-use Rattle.rules.specs.Printed.{refusedLine, answerLine, statusLines, tableBy, tableOfRun, tableGiven}
-use Rattle.rules.specs.Printed.{tableBudget, tableChunk, tableOfJudged, tableOf, maxTable, countIfRoom, bytesIfRoom, Prints}
+use Rattle.rules.specs.Printed.{refusedLine, answerLine, statusLines, tableBy, tableOfRun}
+use Rattle.rules.specs.Printed.{tableBudget, tableChunk, tableOfJudged, tableOf, maxTable, countIfRoom, Prints}
 use Rattle.rules.proofs.RunTheorems.{run-answer, run-statuses}
 use Rattle.rules.proofs.RefusedRuns.{run-accepted}
 use Rattle.rules.proofs.BufferTheorems.{length-statusAfter, length-hintsAfter}
-use Rattle.rules.proofs.RefusalLaws.{refusal-sound}
+use Rattle.rules.proofs.ReadList as reading
 use Rattle.rules.proofs.PrintedLaws.{table-runs}
 use Rattle.rules.proofs.TableLaws.{length-tableOf}
 use Rattle.buffers.specs.Put.{Room, Put}
 use Rattle.printed.specs.Table.{listGiven, tableOfList, Sized, Ran, TableReady}
-use Rattle.buffers.proofs.PutLaws.{putAt-front, room-first, room-same}
+use Rattle.buffers.proofs.PutLaws.{room-first, room-same}
+use Rattle.buffers.proofs.RoomLaws.{short-count, short-bytes, whole-count, whole-bytes}
 
 -- ---- by the number of the answer
 
@@ -172,81 +169,35 @@ pub record ReadList (text : List ℕ) (r : Reading) (after : List ℤ) : Type 0 
   pub runs : Accepted (listGiven (r .vars) (take (r .entries) after))
   pub table-is : tableOf text ≡ tableOfList (r .vars) (take (r .entries) after)
 
-never-zero : {room : ℕ} {text : List ℕ} {a : ReadAnswer} → Refuses room text a → readNumber a ≡ 0 → ⊥
-never-zero (short-buffer h) e = omega (arith, e)
-never-zero (long-text h k) e = omega (arith, e)
-never-zero (no-header b h) e = omega (arith, e)
-never-zero (bad-header line b f h) e = omega (arith, e)
-never-zero (large-header line v c b f h k) e = omega (arith, e)
-never-zero (bad-token s es t w h) e = omega (arith, e)
-never-zero (token-behind s es t l w h k) e = omega (arith, e)
-never-zero (token-over-vars s es t l w h k u) e = omega (arith, e)
-never-zero (many-tokens s es t l w h k u m) e = omega (arith, e)
-never-zero (short-text line s es b h f k) e = omega (arith, e)
-
 module _ {text : List ℕ} {before : List ℤ} {r : Reading} {after : List ℤ} (d : Reads text before r after) (z : length before ≡ maxEntries) where
-  returned-is : r ≡ returned (judge maxEntries text)
-  unfolding readingOf
-  returned-is = d .result-is ∙ ap (λ (n : ℕ). returned (judge n text)) z
-
-  written-is : after ≡ written (judge maxEntries text) before
-  unfolding entriesAfter
-  written-is = d .after-is ∙ ap (λ (n : ℕ). written (judge n text) before) z
-
   pub read-line : readNumber (r .answer) ≢ 0 → tableOf text ≡ refusedLine (readNumber (r .answer)) (readPlace (r .answer))
   unfolding tableOf
-  read-line h = go (judge maxEntries text) returned-is
-    where
-      go : (j : Judged) → r ≡ returned j → tableOfJudged j ≡ refusedLine (readNumber (r .answer)) (readPlace (r .answer))
-      go (accepted s es) e = absurd (h (ap (λ (q : Reading). readNumber (q .answer)) e))
-      go (refused a) e = sym (ap (λ (q : Reading). refusedLine (readNumber (q .answer)) (readPlace (q .answer))) e)
+  read-line h = ap tableOfJudged (reading.read-refused d z h)
 
   pub read-list : readNumber (r .answer) ≡ 0 → ReadList text r after
   unfolding tableOf
-  read-list h = go (judge maxEntries text) refl returned-is written-is
-    where
-      go : (j : Judged) → judge maxEntries text ≡ j → r ≡ returned j → after ≡ written j before → ReadList text r after
-      go (refused a) q e f = absurd (never-zero (refusal-sound maxEntries text q) (sym (ap (λ (p : Reading). readNumber (p .answer)) e) ∙ h))
-      go (accepted s es) q e f =
-          let zeros = replicate (maxEntries - length es) (pos 0) in
-          let rest = drop maxEntries before in
-          let front : take (r .entries) after ≡ es =
-          ap (λ (p : Reading). take (p .entries) after) e ∙
-          ap (take (length es)) (f ∙ append-assoc es zeros rest) ∙
-          take-append-seam es (zeros ++ rest) in
-          let same : listGiven (r .vars) (take (r .entries) after) ≡ tableGiven s es =
-          ap (λ (p : Reading). listGiven (p .vars) (take (r .entries) after)) e ∙ ap (λ (xs : List ℤ). tableGiven s xs) front in
-          record {
-            counted =
-                rw (ap (λ (p : Reading). p .entries) e, f)
-                (omega (arith, length-append (es ++ zeros) rest, length-append es zeros));
-            runs = rw same (table-runs maxEntries text q);
-            table-is =
-                ap tableOfJudged q ∙
-                sym (ap (λ (p : Reading). tableOfList (p .vars) (take (r .entries) after)) e ∙ ap (λ (xs : List ℤ). tableOfList (s .vars) xs) front);
-          }
+  read-list h =
+      let w = reading.read-list d z h in
+      record {
+        counted = w .counted;
+        runs = rw (w .vars-are) (table-runs maxEntries text (w .judged));
+        table-is = ap tableOfJudged (w .judged) ∙ ap (λ (v : ℕ). tableOfList v (take (r .entries) after)) (sym (w .vars-are));
+      }
 
 -- ---- the contract
 
 pub prints-short : (text before : List ℕ) → length before < maxTable → Prints text before 0 before
 prints-short text before h =
-    let e = lt-leb maxTable (length before) h in
-    record {
-      count-is = sym (ap (λ (b : Bool). countIfRoom b (tableOf text)) e);
-      after-is = sym (ap (λ (b : Bool). bytesIfRoom b (tableOf text) before) e);
-    }
+    record { count-is = short-count maxTable (tableOf text) before h; after-is = short-bytes maxTable (tableOf text) before h }
 
 pub whole-room : (text out : List ℕ) → maxTable ≤ length out → Room 0 (tableOf text) out
 whole-room text out h = record { fits = omega (arith, length-tableOf text) }
 
 pub prints-table : {text before : List ℕ} {n : ℕ} {after : List ℕ} → maxTable ≤ length before → Put 0 (tableOf text) before n after → Prints text before n after
-prints-table {text} {before} {n} {after} h p =
-    let e = le-leb maxTable (length before) h in
-    let fits : length (tableOf text) ≤ length before = omega (arith, length-tableOf text) in
-    let whole : n ≡ length (tableOf text) = omega (arith, p .next-is) in
+prints-table {text} {before} h p =
     record {
-      count-is = whole ∙ sym (ap (λ (b : Bool). countIfRoom b (tableOf text)) e);
-      after-is = p .after-is ∙ putAt-front before (tableOf text) fits ∙ sym (ap (λ (b : Bool). bytesIfRoom b (tableOf text) before) e);
+      count-is = whole-count maxTable (tableOf text) before (length-tableOf text) h p;
+      after-is = whole-bytes maxTable (tableOf text) before (length-tableOf text) h p;
     }
 
 pub prints-le : {text before : List ℕ} {n : ℕ} {after : List ℕ} → Prints text before n after → n ≤ maxTable

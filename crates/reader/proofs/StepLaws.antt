@@ -33,7 +33,7 @@ use Rattle.reader.specs.declared.header.Header.{Header}
 use Rattle.reader.specs.declared.tokens.Cursor.{Cursor}
 use Rattle.reader.specs.declared.tokens.Step.{Step}
 use Rattle.reader.specs.Scan.{firstFrom}
-use Rattle.reader.specs.Words.{signedValue, valueOf, tokenOf, sizes}
+use Rattle.reader.specs.Words.{signedValue, maxNumber, valueOf, tokenOf, sizes}
 use Rattle.reader.specs.Skips.{Skips}
 use Rattle.reader.specs.Steps.{stepIf, entryStep, left, Judges, Steps}
 use Rattle.rules.proofs.ListLaws.{apart}
@@ -45,20 +45,20 @@ use Rattle.reader.proofs.TokenLaws.{bad-of-token, entry-of-token}
 
 -- ---- the entry as the machine holds it
 
-small-plain : (n : ℕ) → n ≤ 256 → SFits w32 (pos n)
+small-plain : (n : ℕ) → n ≤ maxNumber → SFits w32 (pos n)
 small-plain n h = record { sfits = omega arith }
 
-small-minus : (n : ℕ) → n ≤ 256 → SFits w32 (negℤ (pos n))
+small-minus : (n : ℕ) → n ≤ maxNumber → SFits w32 (negℤ (pos n))
 small-minus zero h = record { sfits = omega arith }
 small-minus (suc n) h = record { sfits = omega arith }
 
-pub plain-is : (n : ℕ) → n ≤ 256 → toZ w32 n ≡ pos n
+pub plain-is : (n : ℕ) → n ≤ maxNumber → toZ w32 n ≡ pos n
 plain-is n h = toZ-ofZ-at (pos n) (small-plain n h)
 
-pub minus-fits : (n : ℕ) → n ≤ 256 → SFits w32 (pos 0 -ℤ toZ w32 n)
+pub minus-fits : (n : ℕ) → n ≤ maxNumber → SFits w32 (pos 0 -ℤ toZ w32 n)
 minus-fits n h = rw (plain-is n h, +ℤ-idl) (small-minus n h)
 
-pub minus-is : (n : ℕ) → n ≤ 256 → toZ w32 (ofZ w32 (pos 0 -ℤ toZ w32 n)) ≡ negℤ (pos n)
+pub minus-is : (n : ℕ) → n ≤ maxNumber → toZ w32 (ofZ w32 (pos 0 -ℤ toZ w32 n)) ≡ negℤ (pos n)
 minus-is n h = rw (plain-is n h, +ℤ-idl) (toZ-ofZ-at (negℤ (pos n)) (small-minus n h))
 
 -- ---- its variable, and whether it closes a clause
@@ -81,11 +81,11 @@ zero-is e = go (e .minus) (e .number)
 
 -- ---- and back from its bits
 
-pub held : (l : ℤ) → natAbs l ≤ 256 → toZ w32 (ofZ w32 l) ≡ l
+pub held : (l : ℤ) → natAbs l ≤ maxNumber → toZ w32 (ofZ w32 l) ≡ l
 held (pos n) h = toZ-ofZ-at (pos n) (record { sfits = omega arith })
 held (negsuc n) h = toZ-ofZ-at (negsuc n) (record { sfits = omega arith })
 
-pub value-back : (e : Entry) → e .number ≤ 256 → toZ w32 (ofZ w32 (valueOf e)) ≡ valueOf e
+pub value-back : (e : Entry) → e .number ≤ maxNumber → toZ w32 (ofZ w32 (valueOf e)) ≡ valueOf e
 value-back e h = held (valueOf e) (omega (arith, var-is e))
 
 -- ---- the step at the cursor

@@ -44,6 +44,10 @@ abbrev pub signedValue : Bool → ℕ → ℤ
 signedValue true n = negℤ (pos n)
 signedValue false n = pos n
 
+-- nine digits
+abbrev pub maxNumber : ℕ
+maxNumber = 999999999
+
 -- the entry as the list holds it
 abbrev pub valueOf : Entry → ℤ
 valueOf e = signedValue (e .minus) (e .number)

@@ -7,7 +7,7 @@ mod number;
 mod scan;
 mod skip;
 mod store;
-mod token;
+pub mod token;
 mod tokens;
 
 ghost use Prim.Native.Nat.{_≤_};

@@ -1,7 +1,8 @@
 // Tokens: docs/RULES.md, "The text". An optional `-` and 1 to 9 digits; a minus before zeros alone is malformed.
 ghost use mathlib.Core.Path.{_≡_};
 ghost use Rattle.rules.specs.Text.{entryOf};
-ghost use Rattle.reader.specs.Words.{tokenOf, signedToken};
+ghost use Prim.Native.Nat.{_≤_};
+ghost use Rattle.reader.specs.Words.{tokenOf, signedToken, maxNumber, valueOf};
 use crate::number::Number;
 use crate::number::number_of;
 
@@ -41,4 +42,15 @@ pub fn token_of(word: &[u8]) -> Token
     } else {
         signed(false, number_of(word))
     }
+}
+
+// The entry as the list holds it.
+// Rules out: 3 for -3; a place for the number.
+// Required of: tokens::judge_entry, after 7; arguments::number_of, below ten digits.
+pub fn value_of(e: Entry) -> i32
+    requires { ⌜ e .number ≤ maxNumber ⌝ }
+    ensures { λ r. ⌜ r ≡ valueOf e ⌝ }
+{
+    let x = e.number as i32;
+    if e.minus { 0 - x } else { x }
 }

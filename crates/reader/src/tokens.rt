@@ -16,6 +16,7 @@ use crate::skip::next_token;
 use crate::token::Entry;
 use crate::token::Token;
 use crate::token::token_of;
+use crate::token::value_of;
 use rules::MAX_ENTRIES;
 use rules::ReadAnswer;
 use rules::Reading;
@@ -32,15 +33,6 @@ pub enum Step {
     Refused(ReadAnswer),
     TextEnd,
     Store(i32, Cursor),
-}
-
-// The entry as the list holds it.
-fn value_of(e: Entry) -> i32
-    requires { ⌜ e .number ≤ maxVars ⌝ }
-    ensures { λ r. ⌜ r ≡ valueOf e ⌝ }
-{
-    let x = e.number as i32;
-    if e.minus { 0 - x } else { x }
 }
 
 // The entry that stands from `from` up to `to`: 6, 7, 8, or it is stored.

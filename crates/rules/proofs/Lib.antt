@@ -37,6 +37,7 @@ pub mod AnswerLaws
 pub mod RefusedRuns
 pub mod BufferTheorems
 pub mod TextTheorems
+pub mod ReadList
 pub mod PrintedLaws
 pub mod PlaceLaws
 pub mod TableLaws
@@ -45,4 +46,9 @@ pub mod Starred
 pub mod AnswerCases
 pub mod HintCases
 pub mod EdgeCases
+pub mod WhyLaws
+pub mod WhyTheorems
+pub mod WhyRefused
+pub mod WhyCases
+pub mod WhyText
 pub mod Theorems

@@ -1,5 +1,6 @@
 -- No printed table is longer than maxTable, whatever the text: 63 bytes for the first line, 35 for each variable.
 --
+--   readNumber-le, refusalNumber-le, length-refusedLine      the line of a refusal
 --   length-tableOf    no table is longer than maxTable
 --
 -- Assumes nothing.
@@ -33,7 +34,7 @@ use Rattle.rules.proofs.PrintedLaws.{table-runs}
 
 -- ---- lines
 
-readNumber-le : (a : ReadAnswer) → readNumber a ≤ 9
+pub readNumber-le : (a : ReadAnswer) → readNumber a ≤ 9
 readNumber-le ReadAnswer.Accepted = omega arith
 readNumber-le ReadAnswer.ShortBuffer = omega arith
 readNumber-le ReadAnswer.LongText = omega arith
@@ -45,11 +46,12 @@ readNumber-le (ReadAnswer.TokenOverVars at) = omega arith
 readNumber-le (ReadAnswer.ManyTokens at) = omega arith
 readNumber-le (ReadAnswer.ShortText at) = omega arith
 
-refusalNumber-le : (a : Refusal) → refusalNumber a ≤ 21
+pub refusalNumber-le : (a : Refusal) → refusalNumber a ≤ 21
 refusalNumber-le Refusal.ShortBuffer = omega arith
 refusalNumber-le Refusal.BadLimits = omega arith
 refusalNumber-le (Refusal.BadList at) = omega arith
 refusalNumber-le (Refusal.EntryOverVars at) = omega arith
+refusalNumber-le (Refusal.BadLiteral at) = omega arith
 
 runNumber-le : (a : RunAnswer) → runNumber a ≤ 21
 runNumber-le RunAnswer.Settled = omega arith
@@ -57,7 +59,7 @@ runNumber-le RunAnswer.NoModel = omega arith
 runNumber-le RunAnswer.Stopped = omega arith
 runNumber-le (RunAnswer.Refused a) = omega (arith, refusalNumber-le a)
 
-length-refusedLine : (number place : ℕ) → number ≤ 99 → place ≤ maxText → length (refusedLine number place) ≤ 23
+pub length-refusedLine : (number place : ℕ) → number ≤ 99 → place ≤ maxText → length (refusedLine number place) ≤ 23
 length-refusedLine number place h k =
     simp length-append (omega (arith, decimal-most 2 number (omega arith) (omega arith), decimal-most 5 place (omega arith) (omega arith)))
 

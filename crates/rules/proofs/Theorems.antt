@@ -3,16 +3,18 @@
 use mathlib.Core.Path.{_≡_}
 use mathlib.Core.Logic.{_≢_, _⊎_, _↔_}
 use mathlib.Core.Bool.{true}
-use mathlib.Core.List.{List, [], _∷_, _++_}
+use mathlib.Core.List.{List, [], _∷_, _++_, map}
 use mathlib.Core.Option.{none, some}
 use Prim.Native.Nat.{ℕ, suc, _+_, _-_, _≤_, _<_}
 use lib.IntN.{ℤ, pos, negsuc}
-use lib.ListN.{length, getD, take, drop, replicate}
+use lib.ListN.{length, getD, take, drop, set, replicate}
 use Rattle.rules.specs.declared.ReadAnswer.{ReadAnswer}
 use Rattle.rules.specs.declared.Reading.{Reading}
 use Rattle.rules.specs.declared.Refusal.{Refusal}
 use Rattle.rules.specs.declared.RunAnswer.{RunAnswer}
 use Rattle.rules.specs.declared.Report.{Report}
+use Rattle.rules.specs.declared.WhyAnswer.{WhyAnswer}
+use Rattle.rules.specs.declared.WhyReport.{WhyReport}
 use Rattle.rules.specs.declared.ClauseState.the-variants.{False}
 use Rattle.rules.specs.Lists.{In, all, count}
 use Rattle.rules.specs.Numbers.{maxText, maxEntries, readNumber, readPlace}
@@ -21,7 +23,7 @@ use Rattle.rules.specs.Reading.{readingOf, filled, entriesAfter, Reads}
 use Rattle.rules.specs.Grammar.{NoLf, TokenEnd, WithHeader, Dimacs}
 use Rattle.rules.specs.Refusals.{Refuses}
 use Rattle.rules.specs.Plain.{decimal, plain, entriesOf, Within}
-use Rattle.rules.specs.Meaning.{Clause, Values, indexOf, clauses, satisfies, LitUpTo, Proper}
+use Rattle.rules.specs.Meaning.{Clause, Values, varOf, indexOf, clauses, satisfies, LitUpTo, Proper}
 use Rattle.rules.specs.Closing.{stateOf, under-way, round, again, closing, clash, closed}
 use Rattle.rules.specs.Visits.{Visits, Quiet}
 use Rattle.rules.specs.Search.{model, no-model, triesOf, onClosed, callOn}
@@ -37,6 +39,8 @@ use Rattle.rules.specs.RunRefusals.{Accepted, RunRefuses}
 use Rattle.rules.specs.Log.{LogOf}
 use Rattle.rules.specs.Printed.{forcedWord, freeWord, onWord, offWord, heldWord, refusedLine, tableOfRun, tableOf, maxTable, Prints}
 use Rattle.rules.specs.Tables.{lineAt, SaysAnswer, tableTask}
+use Rattle.rules.specs.Why.{Question, marked, bitOf, why, FalseModel, WhyGiven, whyRefusal, Explains, WhyAccepted, WhyRefuses}
+use Rattle.rules.specs.WhyPrinted.{whyAsked, whyTextOf, maxWhy, PrintsWhy}
 use Rattle.rules.proofs.ClosingLaws as closing-laws
 use Rattle.rules.proofs.ClosingOrder as closing-order
 use Rattle.rules.proofs.SearchLaws as search-laws
@@ -53,9 +57,13 @@ use Rattle.rules.proofs.CommentTheorems as comments
 use Rattle.rules.proofs.PrintedLaws as printed
 use Rattle.rules.proofs.TableLaws as table-laws
 use Rattle.rules.proofs.TableTheorems as tables
+use Rattle.rules.proofs.WhyTheorems as reasons
+use Rattle.rules.proofs.WhyRefused as refused-reasons
 use Rattle.rules.proofs.Starred as run-cases
 use Rattle.rules.proofs.AnswerCases as more-cases
 use Rattle.rules.proofs.EdgeCases as edges
+use Rattle.rules.proofs.WhyCases as reason-cases
+use Rattle.rules.proofs.WhyText as reason-text
 use Rattle.rules.proofs.HintTheorems as hints
 use Rattle.rules.proofs.HintCases as held-cases
 
@@ -315,6 +323,62 @@ module _ {text : List ℕ} {vars n : ℕ} {es : List ℤ} (d : Dimacs text vars 
   pub table-no-model : (SaysAnswer 21 (tableOf text) → ⊥) → SaysAnswer 20 (tableOf text) ↔ NoModel vars (clauses es)
   table-no-model = tables.table-no-model d
 
+-- ---- why a literal is forced
+
+module _ (q : Question) (some : 1 ≤ varOf (q .literal)) where
+  -- With 0 no assignment makes the kept clauses true with the literal false.
+  pub why-forces : why q .answer ≡ WhyAnswer.Kept → (m : Values) → FalseModel (q .vars) (marked (why q .marks) (q .formula)) (q .literal) m → ⊥
+  why-forces = reasons.why-forces q some
+
+  -- Without any one of them there is such an assignment.
+  pub why-needed : why q .answer ≡ WhyAnswer.Kept → (i : ℕ) → getD (why q .marks) i 0 ≢ 0
+      → (m : Values) × FalseModel (q .vars) (marked (set (why q .marks) i 0) (q .formula)) (q .literal) m
+  why-needed = reasons.why-needed q some
+
+  -- And the literal is forced by the formula.
+  pub why-forced : why q .answer ≡ WhyAnswer.Kept → Forced (q .vars) (q .formula) (q .literal)
+  why-forced = reasons.why-forced q some
+
+  -- Unless stopped, 20 is answered exactly if there is no model,
+  pub why-no-model : why q .answer ≢ WhyAnswer.Stopped → (why q .answer ≡ WhyAnswer.NoModel) ↔ NoModel (q .vars) (q .formula)
+  why-no-model = reasons.why-no-model q some
+
+  -- and 22 exactly if a model has the literal false;
+  pub why-not-forced : why q .answer ≢ WhyAnswer.Stopped
+      → (why q .answer ≡ WhyAnswer.NotForced) ↔ ((m : Values) × FalseModel (q .vars) (q .formula) (q .literal) m)
+  why-not-forced = reasons.why-not-forced q some
+
+  -- such a model is written.
+  pub why-values : why q .answer ≡ WhyAnswer.NotForced → (m : Values) × FalseModel (q .vars) (q .formula) (q .literal) m × (why q .values ≡ map bitOf m)
+  why-values = reasons.why-values q some
+
+-- Calls are at most C + 2; tries are within the budget, all of it where it stopped the run.
+pub why-calls : (q : Question) → why q .calls ≤ length (q .formula) + 2
+why-calls = reasons.why-calls
+
+pub why-tries : (q : Question) → (why q .tries ≤ q .budget) × (why q .answer ≡ WhyAnswer.Stopped → why q .tries ≡ q .budget)
+why-tries = reasons.why-tries
+
+-- Each refusal is given exactly when its rule says so, and none exactly if nothing is wrong.
+pub why-refused : (g : WhyGiven) (a : Refusal) → (whyRefusal g ≡ some a) ↔ WhyRefuses g a
+why-refused = refused-reasons.why-refused
+
+pub why-accepted : (g : WhyGiven) → (whyRefusal g ≡ none) ↔ WhyAccepted g
+why-accepted = refused-reasons.why-accepted
+
+-- What is printed is never longer than maxWhy, and no second result meets its contract.
+pub why-text-bound : (text : List ℕ) (l : ℤ) → length (whyTextOf text l) ≤ maxWhy
+why-text-bound = reason-text.length-whyTextOf
+
+pub prints-why-unique : {text : List ℕ} {l : ℤ} {before : List ℕ} {n n′ : ℕ} {b b′ : List ℕ}
+    → PrintsWhy text l before n b → PrintsWhy text l before n′ b′ → (n ≡ n′) × (b ≡ b′)
+prints-why-unique = reason-text.prints-why-unique
+
+-- Of an accepted text nothing is refused but the literal.
+pub why-only-literal : {text : List ℕ} {vars n : ℕ} {es : List ℤ} → Dimacs text vars n es → (l : ℤ) (a : Refusal)
+    → WhyRefuses (whyAsked vars es l) a → a ≡ Refusal.BadLiteral 0
+why-only-literal = reason-text.why-only-literal
+
 -- ---- which clause holds a switch
 
 -- In the first model of a run a hint is 0 exactly if the variable, flipped alone, leaves all clauses true,
@@ -339,6 +403,14 @@ pub forced-held : (k : Task) → 1 ≤ k .limit → (es : List ℤ) → k .formu
 forced-held = hints.forced-held
 
 -- ---- computed cases: each is a table whose lines are compared with what the definitions give
+
+-- Why: small formulas, with marks, values, calls and tries.
+pub why-cases : all reason-cases.passes reason-cases.cases ≡ true
+why-cases = reason-cases.why-cases
+
+-- An answer of each kind, as it is printed.
+pub why-shown : all reason-text.passes reason-text.answers ≡ true
+why-shown = reason-text.why-shown
 
 -- The small formulas that the rules mark, whole.
 pub starred : all run-cases.passes run-cases.cases ≡ true
@@ -382,3 +454,8 @@ runs-unique = buffers.runs-unique
 pub prints-unique : {text before : List ℕ} {n n′ : ℕ} {b b′ : List ℕ}
     → Prints text before n b → Prints text before n′ b′ → (n ≡ n′) × (b ≡ b′)
 prints-unique = printed.prints-unique
+
+-- One result and two buffers satisfy the contract of why.
+pub explains-unique : {g : WhyGiven} {r r′ : WhyReport} {s s′ v v′ : List ℕ}
+    → Explains g r s v → Explains g r′ s′ v′ → (r ≡ r′) × (s ≡ s′) × (v ≡ v′)
+explains-unique = refused-reasons.explains-unique

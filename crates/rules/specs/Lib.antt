@@ -19,3 +19,6 @@ pub mod Log
 pub mod Models
 pub mod Printed
 pub mod Tables
+pub mod Why
+pub mod ModelLine
+pub mod WhyPrinted

@@ -69,6 +69,11 @@ module _ {A : Type 0} where
   joined [] = []
   joined (xs ∷ xss) = xs ++ joined xss
 
+  -- a piece for each element, one behind the other; the first element has number n
+  abbrev pub pieces : {B : Type 0} → (ℕ → A → List B) → ℕ → List A → List B
+  pieces f n [] = []
+  pieces f n (x ∷ xs) = f n x ++ pieces f (suc n) xs
+
 -- what is answered if a test passes
 pub record Check (A : Type 0) : Type 0 where
   pub passes : Bool

@@ -59,12 +59,14 @@ refusalNumber Refusal.ShortBuffer = 1
 refusalNumber Refusal.BadLimits = 10
 refusalNumber (Refusal.BadList at) = 11
 refusalNumber (Refusal.EntryOverVars at) = 12
+refusalNumber (Refusal.BadLiteral at) = 13
 
 abbrev pub refusalPlace : Refusal → ℕ
 refusalPlace Refusal.ShortBuffer = 0
 refusalPlace Refusal.BadLimits = 0
 refusalPlace (Refusal.BadList at) = at
 refusalPlace (Refusal.EntryOverVars at) = at
+refusalPlace (Refusal.BadLiteral at) = at
 
 -- and for a run
 abbrev pub runNumber : RunAnswer → ℕ

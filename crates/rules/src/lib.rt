@@ -25,12 +25,20 @@ pub const MAX_CHUNK: u32 = 256;
 // "What comes back": the log of a run on as many variables as there may be, six numbers for each call.
 pub const MAX_LOG: usize = 6 * (MAX_VARS as usize + 1);
 
+// As many marks as there may be clauses.
+pub const MAX_MARKS: usize = MAX_CLAUSES as usize;
+
 // "The printed table": budget and chunk limit of its run, and the longest one.
 pub const TABLE_BUDGET: u32 = 1000000;
 
 pub const TABLE_CHUNK: u32 = 16;
 
 pub const MAX_TABLE: usize = 9216;
+
+// "The printed reason": its budget, and no less than the longest one.
+pub const WHY_BUDGET: u32 = 1000000;
+
+pub const MAX_WHY: usize = 32768;
 
 // What a clause is under some values ("Closing").
 pub enum ClauseState {
@@ -86,6 +94,7 @@ pub enum Refusal {
     BadLimits,
     BadList(usize),
     EntryOverVars(usize),
+    BadLiteral(usize),
 }
 
 // The answer of a run. Its number and place are runNumber and runPlace.
@@ -103,4 +112,22 @@ pub struct Report {
     pub tries: u32,
     pub forced: u32,
     pub free: u32,
+}
+
+// The answer to the question why a literal is forced. Its number and place are whyNumber and whyPlace.
+pub enum WhyAnswer {
+    // A set of clauses that alone forces the literal is marked.
+    Kept,
+    NoModel,
+    Stopped,
+    // A model has the literal false.
+    NotForced,
+    Refused(Refusal),
+}
+
+// What that question returns.
+pub struct WhyReport {
+    pub answer: WhyAnswer,
+    pub calls: u32,
+    pub tries: u32,
 }

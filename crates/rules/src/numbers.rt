@@ -1,6 +1,7 @@
 // The numbers and places of docs/RULES.md, "What comes back", for each answer.
 ghost use mathlib.Core.Path.{_≡_};
 ghost use Rattle.rules.specs.Numbers.{outcomeNumber, readNumber, readPlace, refusalNumber, refusalPlace, runNumber, runPlace};
+ghost use Rattle.rules.specs.Why.{whyNumber, whyPlace};
 
 // The log's second column.
 // Rules out: 2 for a stopped call; 0 for a model.
@@ -62,6 +63,7 @@ pub fn refusal_number(refusal: crate::Refusal) -> u32
         crate::Refusal::BadLimits => 10,
         crate::Refusal::BadList(_) => 11,
         crate::Refusal::EntryOverVars(_) => 12,
+        crate::Refusal::BadLiteral(_) => 13,
     }
 }
 
@@ -75,6 +77,7 @@ pub fn refusal_place(refusal: crate::Refusal) -> usize
         crate::Refusal::BadLimits => 0,
         crate::Refusal::BadList(at) => at,
         crate::Refusal::EntryOverVars(at) => at,
+        crate::Refusal::BadLiteral(at) => at,
     }
 }
 
@@ -101,5 +104,33 @@ pub fn run_place(answer: crate::RunAnswer) -> usize
         crate::RunAnswer::NoModel => 0,
         crate::RunAnswer::Stopped => 0,
         crate::RunAnswer::Refused(refusal) => refusal_place(refusal),
+    }
+}
+
+// The number of the answer to why a literal is forced.
+// Rules out: 0 for a literal that is not; 20 where it is false in a model.
+pub fn why_number(answer: crate::WhyAnswer) -> u32
+    ensures { λ r. ⌜ r ≡ whyNumber answer ⌝ }
+{
+    match answer {
+        crate::WhyAnswer::Kept => 0,
+        crate::WhyAnswer::NoModel => 20,
+        crate::WhyAnswer::Stopped => 21,
+        crate::WhyAnswer::NotForced => 22,
+        crate::WhyAnswer::Refused(refusal) => refusal_number(refusal),
+    }
+}
+
+// Its place.
+// Rules out: 0 for a list refused at index 2; 1 for a literal that is not forced.
+pub fn why_place(answer: crate::WhyAnswer) -> usize
+    ensures { λ r. ⌜ r ≡ whyPlace answer ⌝ }
+{
+    match answer {
+        crate::WhyAnswer::Kept => 0,
+        crate::WhyAnswer::NoModel => 0,
+        crate::WhyAnswer::Stopped => 0,
+        crate::WhyAnswer::NotForced => 0,
+        crate::WhyAnswer::Refused(refusal) => refusal_place(refusal),
     }
 }

@@ -39,7 +39,7 @@ fn take_back(values: &mut [u8], saved: &[u8], outcome: Outcome)
 // Going on: close; on a clash there is no model here; if all variables are set, this is the model; otherwise take the lowest unset
 // variable and try it false, then, if that finds nothing, true.
 // Rules out: the model with true before false; stopped as none.
-// Required of: backbone::first::first_call and calls::next::chunk_call, after 10, 11 and 12; try_value, which requires it too.
+// Required of: backbone::first::first_call, calls::next::chunk_call and reason::call::blank_call, after 10, 11 and 12; try_value, which requires it too.
 pub fn go_on<'a>(
     entries: &'a [i32],
     starts: &[u16],

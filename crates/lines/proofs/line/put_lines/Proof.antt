@@ -1,21 +1,26 @@
 -- `line::put_lines` meets its contract. The invariant of its loop: the first i lines are put, and with the others behind them all
 -- are. The measure is what is left of the statuses. Assumes nothing.
+use mathlib.Core.Path.{sym}
 use Prim.Native.Nat.{_-_}
 use native.Mathlib.Omega.{arith}
 use borrow.Author.Needs.{needs}
-use lib.ListN.{length}
-use Rattle.lines.proofs.LineLaws.{Lining, lining-start, lining-room, lining-step, lining-done}
+use lib.ListN.{length, getD}
+use Rattle.buffers.proofs.PutLaws.{room-same, put-same}
+use Rattle.buffers.proofs.PieceLaws.{Piecing, piecing-start, piecing-room, piecing-step, piecing-done}
+use Rattle.lines.proofs.LineLaws.{linePiece, lines-pieces, line-at}
 use Rattle.lines.proofs.line.put_lines.Statement.{statement}
 use Rattle.lines.proofs.line.put_lines.Tie as tie
 
 abbrev Inv-loop : tie.InvT-loop
-Inv-loop out₀ at status hints next₀ i₀ out next i = Lining status hints at out₀ i next out
+Inv-loop out₀ at status hints next₀ i₀ out next i = Piecing (linePiece hints) status at out₀ i next out
 
 abbrev μ-loop : tie.MeasureT-loop
 μ-loop out₀ at status hints next₀ i₀ out next i = length status - i
 
 loop-holds : tie.Need-loop-holds Inv-loop μ-loop
-loop-holds c = lining-start (c .before .before .before .pre .room)
+loop-holds c =
+    let s = c .before .before .before in
+    piecing-start (room-same (lines-pieces 1 (s .args .status .now) (s .args .hints .now)) (s .pre .room))
 
 cast-t11 : tie.Need-cast-t11 Inv-loop μ-loop
 cast-t11 c = search needs
@@ -37,7 +42,9 @@ shared-slice-read-put-variable-2 c =
 put-variable-requires : tie.Need-put-variable-requires Inv-loop μ-loop
 put-variable-requires c κs =
     let turn = c .before .before .before in
-    lining-room (turn .before .loop .inv) (turn .loop-test .taken)
+    let a = turn .before .before .before .before .before .args in
+    let i = turn .before .loop .i in
+    room-same (line-at (a .hints .now) i (getD (a .status .now) i 0)) (piecing-room 0 (turn .before .loop .inv) (turn .loop-test .taken))
 
 add-i : tie.Need-add-i Inv-loop μ-loop
 add-i c = search needs
@@ -49,13 +56,18 @@ loop-again : tie.Need-loop-again Inv-loop μ-loop
 loop-again c =
     let put = c .before .before in
     let turn = put .before .before .before .before in
-    lining-step (turn .before .loop .inv) (turn .loop-test .taken) (put .put-variable .ensures)
+    let a = turn .before .before .before .before .before .args in
+    let i = turn .before .loop .i in
+    piecing-step 0 (turn .before .loop .inv) (turn .loop-test .taken)
+    (put-same (sym (line-at (a .hints .now) i (getD (a .status .now) i 0))) (put .put-variable .ensures))
 
 same-length : tie.Need-same-length Inv-loop μ-loop
 same-length c = c .before .loop .inv .len
 
 returns : tie.Need-returns Inv-loop μ-loop
-returns c = lining-done (c .before .loop .inv) (c .loop-test .left)
+returns c =
+    let a = c .before .before .before .before .before .args in
+    put-same (sym (lines-pieces 1 (a .status .now) (a .hints .now))) (piecing-done (c .before .loop .inv) (c .loop-test .left))
 
 pub put-lines-spec : {M : Type 1} → statement M
 put-lines-spec =

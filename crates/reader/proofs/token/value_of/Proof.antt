@@ -1,8 +1,8 @@
--- `reader::tokens::value_of` meets its contract. A number up to 256 fits with either sign. Assumes nothing.
+-- `reader::token::value_of` meets its contract. A number of nine digits fits with either sign. Assumes nothing.
 use borrow.Author.Needs.{needs}
 use Rattle.reader.proofs.StepLaws.{minus-fits, minus-is, plain-is}
-use Rattle.reader.proofs.tokens.value_of.Statement.{statement}
-use Rattle.reader.proofs.tokens.value_of.Tie as tie
+use Rattle.reader.proofs.token.value_of.Statement.{statement}
+use Rattle.reader.proofs.token.value_of.Tie as tie
 
 cast-x : tie.Need-cast-x
 cast-x c = search needs

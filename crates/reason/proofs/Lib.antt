@@ -1,0 +1,5 @@
+pub mod KeptLaws
+pub mod CallLaws
+pub mod AskLaws
+pub mod WhyLaws
+pub mod Promises

@@ -1,0 +1,13 @@
+-- `marks::bit_of` meets its contract. Assumes nothing.
+use Rattle.reason.proofs.KeptLaws.{bitOf-false, bitOf-true}
+use Rattle.reason.proofs.marks.bit_of.Statement.{statement}
+use Rattle.reason.proofs.marks.bit_of.Tie as tie
+
+returns : tie.Need-returns
+returns c = bitOf-false (c .before .args .byte) (c .if1 .taken)
+
+returns-2 : tie.Need-returns-2
+returns-2 c = bitOf-true (c .before .args .byte) (c .if1 .left)
+
+pub bit-of-spec : {M : Type 1} → statement M
+bit-of-spec = tie.close (tie.spec returns returns-2)

@@ -1,0 +1,2 @@
+pub mod ReasonLaws
+pub mod AnswerLaws

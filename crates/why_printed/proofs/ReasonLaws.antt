@@ -1,0 +1,100 @@
+-- The laws of the lines: fields as they are put, literals with their sign, and the clauses that are kept.
+--
+--   why-line          the fields of the first line
+--   spaced-signed     a literal is its variable's number with its sign
+--   clause-line       the fields of a clause's line
+--   one-more          a mark that is not 0 counts
+--   Counting, counting-start, counting-step, counting-done     the marks that are not 0
+--   length-marked     as many clauses are kept as marks are not 0
+--   line-gone, line-kept      the line of a clause by its mark
+--   kept-at           the piece of the clause at an index
+--
+-- Assumes nothing.
+use mathlib.Core.Path.{_≡_, refl, sym, ap}
+use mathlib.Core.Logic.{_≢_}
+use mathlib.Core.Bool.{Bool, true, false, not}
+use mathlib.Core.List.{List, [], _∷_, _++_, append-assoc}
+use Prim.Native.Nat.{ℕ, zero, suc, _+_, _≤_, _<_}
+use native.Mathlib.Omega.{arith}
+use native.Mathlib.Numerals.{add-one}
+use lib.IntN.{ℤ, pos, negsuc}
+use lib.ListN.{length, getD, take, drop, drop-of-length-le}
+use lib.Seq.{drop-cons}
+use Rattle.rules.specs.declared.WhyReport.{WhyReport}
+use Rattle.rules.specs.Lists.{count, countIf, pieces}
+use Rattle.rules.specs.Meaning.{Clause, varOf, clauses}
+use Rattle.rules.specs.Plain.{decimal}
+use Rattle.rules.specs.Printed.{answerWord, callsWord, triesWord}
+use Rattle.rules.specs.ModelLine.{signed}
+use Rattle.rules.specs.Why.{whyNumber, marked}
+use Rattle.rules.specs.WhyPrinted.{keptWord, clauseWord, whyLine, spacedLiteral, clauseLine, lineIf, keptLine}
+use Rattle.lines.specs.Lines.{countFields}
+use Rattle.formula.specs.Literals.{isPositive}
+use Rattle.formula.specs.Starts.{clauseAt}
+use Rattle.formula.proofs.ClauseLaws.{clauseAt-formula}
+use Rattle.why_printed.specs.Reason.{isKept}
+
+-- ---- fields
+
+fields-row : (a b c d e f x y n : List ℕ) → ((a ++ b) ++ ((c ++ d) ++ (e ++ f))) ++ ((x ++ y) ++ n) ≡ a ++ b ++ c ++ d ++ e ++ f ++ x ++ y ++ n
+fields-row a b c d e f x y n = simp append-assoc refl
+
+pub why-line : (r : WhyReport) (kept : ℕ)
+    → countFields (whyNumber (r .answer)) (r .calls) (r .tries) ++ ((keptWord ++ decimal kept) ++ 10 ∷ []) ≡ whyLine r kept
+why-line r kept =
+    fields-row answerWord (decimal (whyNumber (r .answer))) callsWord (decimal (r .calls)) triesWord (decimal (r .tries)) keptWord (decimal kept) (10 ∷ [])
+
+pub spaced-signed : (i : ℕ) (l : ℤ) → (32 ∷ []) ++ signed (not (isPositive l)) (varOf l) ≡ spacedLiteral i l
+spaced-signed i (pos n) = refl
+spaced-signed i (negsuc n) = refl
+
+pub clause-line : (n : ℕ) (cl : Clause) → (clauseWord ++ decimal n) ++ ((58 ∷ []) ++ (pieces spacedLiteral 1 cl ++ (10 ∷ []))) ≡ clauseLine n cl
+clause-line n cl = simp append-assoc refl
+
+-- ---- the marks that are not 0
+
+-- those before i, and with the others all
+pub record Counting (ms : List ℕ) (i kept : ℕ) : Type 0 where
+  pub within : i ≤ length ms
+  pub fewer : kept ≤ i
+  pub rest : kept + count isKept (drop i ms) ≡ count isKept ms
+
+pub one-more : (mark n : ℕ) → mark ≢ 0 → n + 1 ≡ countIf (isKept mark) n
+one-more zero n h = absurd (h refl)
+one-more (suc mark) n h = add-one n
+
+pub counting-start : (ms : List ℕ) → Counting ms 0 0
+counting-start ms = record { within = omega arith; fewer = omega arith; rest = omega arith }
+
+pub counting-step : {ms : List ℕ} {i kept kept′ : ℕ} → Counting ms i kept → i < length ms → kept′ ≡ countIf (isKept (getD ms i 0)) kept
+    → Counting ms (i + 1) kept′
+counting-step {ms} {i} {kept} {kept′} w h e =
+    rw add-one (go (isKept (getD ms i 0)) e (sym (ap (count isKept) (drop-cons ms i 0 h))))
+  where
+    go : (b : Bool) → kept′ ≡ countIf b kept → countIf b (count isKept (drop (suc i) ms)) ≡ count isKept (drop i ms) → Counting ms (suc i) kept′
+    go true e f = record { within = omega arith; fewer = omega (arith, w .fewer, e); rest = omega (arith, w .rest, e, f) }
+    go false e f = record { within = omega arith; fewer = omega (arith, w .fewer, e); rest = omega (arith, w .rest, e, f) }
+
+pub counting-done : {ms : List ℕ} {i kept : ℕ} → Counting ms i kept → length ms ≤ i → kept ≡ count isKept ms
+counting-done {ms} {i} {kept} w h = omega (arith, w .rest, ap (count isKept) (drop-of-length-le ms h))
+
+pub length-marked : (ms : List ℕ) (F : List Clause) → length (marked ms F) ≡ count isKept (take (length F) ms)
+length-marked [] [] = refl
+length-marked [] (cl ∷ F) = refl
+length-marked (m ∷ ms) [] = refl
+length-marked (zero ∷ ms) (cl ∷ F) = length-marked ms F
+length-marked (suc m ∷ ms) (cl ∷ F) = ap suc (length-marked ms F)
+
+-- ---- the line of a clause
+
+pub line-gone : (mark n : ℕ) (cl : Clause) → mark ≡ 0 → [] ≡ lineIf mark n cl
+line-gone mark n cl e = rw e
+
+pub line-kept : (mark n : ℕ) (cl : Clause) → mark ≢ 0 → lineIf mark n cl ≡ clauseLine n cl
+line-kept zero n cl h = absurd (h refl)
+line-kept (suc mark) n cl h = refl
+
+-- as it is looked up by its number
+pub kept-at : (es : List ℤ) (marks : List ℕ) (i : ℕ) → i < length (clauses es)
+    → lineIf (getD marks i 0) (i + 1) (clauseAt es [] (i + 1)) ≡ keptLine marks (i + 1) (getD (clauses es) i [])
+kept-at es marks i h = rw add-one (ap (lineIf (getD marks i 0) (suc i)) (sym (clauseAt-formula es [] (suc i) (omega arith) (omega arith))))
