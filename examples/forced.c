@@ -19,8 +19,8 @@ int main(int argc, char **argv)
         fprintf(stderr, "forced: refused %u at byte %u\n", (unsigned)card.answer, (unsigned)card.place);
         return 1;
     }
-    igb_report run = igb_run(entries, card.count, card.vars, IGB_TABLE_BUDGET, IGB_TABLE_CHUNK, status, IGB_STATUS_LEN, hints, IGB_HINTS_LEN,
-                             rows, IGB_LOG_LEN);
+    igb_report run = igb_run(entries, card.count, card.vars, NULL, 0, IGB_TABLE_BUDGET, IGB_TABLE_CHUNK, status, IGB_STATUS_LEN, hints,
+                             IGB_HINTS_LEN, rows, IGB_LOG_LEN);
     for (uint32_t v = 1; v <= card.vars; v++)
         if (status[v - 1] == IGB_FORCED_ON || status[v - 1] == IGB_FORCED_OFF)
             printf("switch %u is always %s, held by rule %u\n", (unsigned)v, status[v - 1] == IGB_FORCED_ON ? "on" : "off",

@@ -7,8 +7,12 @@
  *
  *     igb_read     the text to a list of entries
  *     igb_run      the list to a status for each switch, the clause that holds it, and a log of the run
+ *     igb_setup    the list to one valid setup
  *     igb_why      the list and a literal to the clauses that alone force it, or to a valid setup that has it false
  *     igb_table    the text to the printed table, as the program `table` prints it
+ *
+ * igb_run, igb_setup and igb_table take the literals that are held: choices that have been made already. What they say is said of the setups
+ * with these choices; with none held, of all.
  *
  * Every input is answered: what is wrong is refused with a number and a place, and nothing is undefined but what C itself asks for.
  * A pointer is valid for the length behind it, and a buffer that is written overlaps no other argument. With length 0 a pointer may
@@ -35,6 +39,7 @@ extern "C" {
 #define IGB_CLAUSES_MAX 1024  /* clauses */
 #define IGB_ENTRIES_MAX 4096  /* entries of a list: literals and the 0 that closes each clause */
 #define IGB_CHUNK_MAX 256     /* largest chunk limit; the smallest is 1 */
+#define IGB_HELD_MAX 256      /* held literals; they count neither against IGB_CLAUSES_MAX nor against IGB_ENTRIES_MAX */
 #define IGB_LOG_ROW 6         /* numbers of a log row */
 
 /* Buffers that are long enough for every formula, in elements. Those for entries, marks and the table are also the least that is taken. */
@@ -43,7 +48,7 @@ extern "C" {
 #define IGB_HINTS_LEN 256     /* uint32_t, for igb_run */
 #define IGB_LOG_LEN 1542      /* uint32_t, for igb_run: a row for each variable and one more */
 #define IGB_MARKS_LEN 1024    /* uint8_t, for igb_why */
-#define IGB_VALUES_LEN 256    /* uint8_t, for igb_why */
+#define IGB_VALUES_LEN 256    /* uint8_t, for igb_setup and igb_why */
 #define IGB_TABLE_LEN 9216    /* uint8_t, for igb_table */
 
 #define IGB_STACK_BYTES 524288 /* stack that is enough for every call */
@@ -70,7 +75,9 @@ enum {
     IGB_BAD_LIST = 11,         /* run, why: list over IGB_ENTRIES_MAX (place IGB_ENTRIES_MAX), not ended by 0 (its length), or with
                                   more than IGB_CLAUSES_MAX zeros (index of the first one too many) */
     IGB_ENTRY_OVER_VARS = 12,  /* run, why: a variable above vars; place: index of the first */
-    IGB_BAD_LITERAL = 13,      /* why: the literal is 0, or its variable is above vars */
+    IGB_BAD_LITERAL = 13,      /* run: a held literal is 0 or above vars; place: index of the first in the list of held literals; why: the
+                                  literal is 0 or above vars; place 0 */
+    IGB_MANY_HELD = 15,        /* run: over IGB_HELD_MAX held literals; place IGB_HELD_MAX */
     IGB_NO_MODEL = 20,         /* there is no valid setup */
     IGB_STOPPED = 21,          /* the budget stopped the run, and what is marked holds; or it stopped the why, and nothing is marked */
     IGB_NOT_FORCED = 22        /* why: a valid setup has the literal false */
@@ -142,20 +149,37 @@ igb_reading igb_read(const uint8_t *text, size_t text_len, int32_t *entries, siz
  * Runs on a list of `vars` variables: `entries` with the count that igb_read returned as `entries_len`, or a list of the caller's own.
  * What igb_read has accepted is never refused with IGB_BAD_LIST or IGB_ENTRY_OVER_VARS.
  *
+ * `held` are literals that every setup has to have: v for switch v on, -v for off. Each is one more clause of one literal, behind those of
+ * the list: with C clauses there, held literal i (from 1) is clause C + i. A literal may be held twice; with both signs of a variable held
+ * there is no valid setup.
+ *
  * `budget` is how many tries of a value the whole run may take; `chunk_limit` is how many candidates one call may take at most. The
  * limit changes the number of calls and tries, and never a settled status.
  *
  * A refused run writes nothing: IGB_BAD_LIMITS, IGB_SHORT_BUFFER (status_len or hints_len below vars, or log_len below
- * IGB_LOG_ROW * (vars + 1)), IGB_BAD_LIST, IGB_ENTRY_OVER_VARS, in that order. Otherwise it writes the first `vars` bytes of
- * `status` and the first `vars` numbers of `hints`, those of variable v at v - 1, and the first IGB_LOG_ROW * (vars + 1) numbers of
- * `log`: the rows, then zeros. Longer buffers keep their rest. After IGB_NO_MODEL every status is IGB_OPEN and the log has one row.
+ * IGB_LOG_ROW * (vars + 1)), IGB_BAD_LIST, IGB_ENTRY_OVER_VARS, IGB_MANY_HELD, IGB_BAD_LITERAL, in that order. Otherwise it writes
+ * the first `vars` bytes of `status` and the first `vars` numbers of `hints`, those of variable v at v - 1, and the first
+ * IGB_LOG_ROW * (vars + 1) numbers of `log`: the rows, then zeros. Longer buffers keep their rest. After IGB_NO_MODEL every status is
+ * IGB_OPEN and the log has one row.
  *
  * A hint is the number, from 1, of the first clause that the variable, flipped alone in the run's first model, makes false; 0 if it
  * makes none false. For a forced variable it is at least 1: in that model the variable's literal is the only true one of the clause. All
  * hints are 0 if the run has no first model: after IGB_NO_MODEL, and where the budget stopped its first call.
  */
-igb_report igb_run(const int32_t *entries, size_t entries_len, uint32_t vars, uint32_t budget, uint32_t chunk_limit,
-                   uint8_t *status, size_t status_len, uint32_t *hints, size_t hints_len, uint32_t *log, size_t log_len);
+igb_report igb_run(const int32_t *entries, size_t entries_len, uint32_t vars, const int32_t *held, size_t held_len, uint32_t budget,
+                   uint32_t chunk_limit, uint8_t *status, size_t status_len, uint32_t *hints, size_t hints_len, uint32_t *log,
+                   size_t log_len);
+
+/*
+ * One valid setup with the held literals: the first call of such a run alone. With IGB_OK the first `vars` bytes of `values` are the first
+ * setup, 1 for on and 0 for off, that of variable v at v - 1; setups are compared from variable 1 up, off before on. After IGB_NO_MODEL and
+ * IGB_STOPPED they are zeros. A longer buffer keeps its rest.
+ *
+ * It is refused as igb_run is, with `values` in the place of `status`, and IGB_BAD_LIMITS for `vars` alone; refused, it writes nothing. The
+ * report has one call and its tries; forced and free are 0.
+ */
+igb_report igb_setup(const int32_t *entries, size_t entries_len, uint32_t vars, const int32_t *held, size_t held_len, uint32_t budget,
+                     uint8_t *values, size_t values_len);
 
 /*
  * Why is a literal forced? Marks clauses of a list of `vars` variables that alone force it: no assignment makes all of them true with the
@@ -171,11 +195,11 @@ igb_why_report igb_why(const int32_t *entries, size_t entries_len, uint32_t vars
                        uint8_t *marks, size_t marks_len, uint8_t *values, size_t values_len);
 
 /*
- * Puts the table of a text at the start of `out` and returns its length in bytes: lines ended by LF, with no 0 behind them. Nothing
- * is written behind the table. If out_len is below IGB_TABLE_LEN nothing is written and 0 is returned; no table is longer. A text
- * that is refused has the table "refused N place P".
+ * Puts the table of a text, with literals held, at the start of `out` and returns its length in bytes: lines ended by LF, with no 0
+ * behind them. Nothing is written behind the table. If out_len is below IGB_TABLE_LEN nothing is written and 0 is returned; no table is longer. A text
+ * that is refused has the table "refused N place P", and so has one whose held literals are.
  */
-size_t igb_table(const uint8_t *text, size_t text_len, uint8_t *out, size_t out_len);
+size_t igb_table(const uint8_t *text, size_t text_len, const int32_t *held, size_t held_len, uint8_t *out, size_t out_len);
 
 #ifdef __cplusplus
 }

@@ -32,7 +32,7 @@ shown=$(block 2)
 # The header says that nothing is kept between calls and what the archive asks for.
 if has nm; then
     symbols=$(nm "$archive" | awk 'NF >= 2 {print $(NF - 1), $NF}')
-    [ "$(grep -c '^T igb_' <<<"$symbols")" -eq 4 ] || { echo "library: the archive has not four functions"; exit 1; }
+    [ "$(grep -c '^T igb_' <<<"$symbols")" -eq 5 ] || { echo "library: the archive has not five functions"; exit 1; }
     others=$(grep '^[UbBdDC] ' <<<"$symbols" | grep -v '^U mem\(cpy\|set\)$')
     [ -z "$others" ] || { echo "library: the archive has or asks for more than the header says:" $others; exit 1; }
 fi
@@ -67,7 +67,12 @@ if has gcc; then
             printf 'library: of a text that is no card, a card with no setup and no file the C host says\n%s\n' "$said"
             exit 1
         fi
-        echo "library: the C host says what README.md shows"
+        if ! said=$(bash -e -c "$(block 3)" 2>"$log") || [ "$said" != "$(block 4)" ]; then
+            cat "$log"
+            printf 'library: the panel of README.md says\n%s\nand not what it shows\n' "$said"
+            exit 1
+        fi
+        echo "library: the C hosts say what README.md shows"
     fi
 fi
 

@@ -80,7 +80,7 @@ impl Who {
     pub fn run(self, f: &Formula, budget: u32, chunk_limit: u32, lent: &mut Lent) -> Report {
         let Lent { status, hints, log } = lent;
         match self {
-            Who::Library => raw::run(&f.entries, f.vars, budget, chunk_limit, status, hints, log),
+            Who::Library => raw::run(&f.entries, f.vars, &[], budget, chunk_limit, status, hints, log),
             Who::Plain => plain::run(&f.entries, f.vars, budget, chunk_limit, status, hints, log),
             // SAFETY: the pointers go with the lengths of their slices; a status byte is written for each variable, and there are at most 256.
             #[cfg(cadical)]

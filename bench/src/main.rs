@@ -7,7 +7,7 @@
 mod library;
 mod plain;
 mod plot;
-// how a table is printed is not measured
+// how a table is printed and how one setup is found is not measured
 #[allow(dead_code)]
 #[path = "../../rust/src/raw.rs"]
 mod raw;

@@ -21,7 +21,7 @@ static void *nothing(void *given) { return given; }
 
 static void *one_run(void *given) {
     task *t = given;
-    igb_run(t->entries, t->entries_len, t->vars, t->budget, t->chunk_limit, t->status, IGB_STATUS_LEN, t->hints, IGB_HINTS_LEN,
+    igb_run(t->entries, t->entries_len, t->vars, NULL, 0, t->budget, t->chunk_limit, t->status, IGB_STATUS_LEN, t->hints, IGB_HINTS_LEN,
             t->log, IGB_LOG_LEN);
     return given;
 }

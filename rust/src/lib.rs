@@ -1,7 +1,9 @@
 //! Which switches of a card's rules are forced, and which are free.
 //!
 //! A card's rules are a DIMACS CNF text, one variable a switch. [`read`] takes the text, [`Formula::run`] works out the status of every
-//! switch, [`Formula::why`] which rules force one, and [`table`] prints the statuses as the program `table` does. What breaks the rules is refused: [`Refusal`] says by which rule and
+//! switch, [`Formula::run_held`] the same where some choices are made, [`Formula::setup`] finds one valid setup, [`Formula::why`] says which
+//! rules force a switch, and [`table`] prints the statuses as the program `table` does. What breaks the rules is refused: [`Refusal`] says by
+//! which rule and
 //! where. The answers are those of a proved library, which this crate links; [`raw`] has its functions as they are.
 //!
 //! ```
@@ -27,7 +29,7 @@ mod run;
 mod why;
 
 pub use refusal::Refusal;
-pub use run::{CallEnd, End, Limits, LogRow, Run, Status};
+pub use run::{CallEnd, End, Limits, LogRow, Run, Setup, Status};
 pub use why::{Choice, Found, Kept, Reason, Why};
 
 /// Bytes of a text, at most.
@@ -38,6 +40,8 @@ pub const VARS_MAX: usize = 256;
 pub const CLAUSES_MAX: usize = 1_024;
 /// Entries of a list, at most: literals and the 0 that closes each clause.
 pub const ENTRIES_MAX: usize = 4_096;
+/// Held literals, at most.
+pub const HELD_MAX: usize = 256;
 /// Bytes of a printed table, at most.
 pub const TABLE_MAX: usize = 9_216;
 
@@ -67,8 +71,14 @@ pub fn read(text: &[u8]) -> Result<Formula, Refusal> {
 /// The table of a text: one line of numbers and one for each variable, or `refused N place P`. The run has [`Limits::default`].
 #[must_use]
 pub fn table(text: &[u8]) -> String {
+    table_held(text, &[])
+}
+
+/// The table of a text with literals held.
+#[must_use]
+pub fn table_held(text: &[u8], held: &[i32]) -> String {
     let mut out = vec![0; TABLE_MAX];
-    let length = raw::table(text, &mut out);
+    let length = raw::table(text, held, &mut out);
     out.truncate(length);
     String::from_utf8(out).expect("a table is ASCII")
 }
@@ -102,6 +112,23 @@ impl Formula {
     /// # Errors
     /// Refusals 10 to 12: limits that are not allowed, or a list of the caller's own that breaks the rules.
     pub fn run(&self, limits: Limits) -> Result<Run, Refusal> {
-        run::run(self, limits)
+        run::run(self, &[], limits)
+    }
+
+    /// The same where some choices are already made: each held literal, v for variable v true and -v for false, is one more clause behind the
+    /// formula's. What is forced is so in all models with these choices.
+    ///
+    /// # Errors
+    /// Refusals 10 to 13 and 15: as for [`run`](Formula::run), then over 256 held literals, or one that is 0 or above the formula's number.
+    pub fn run_held(&self, held: &[i32], limits: Limits) -> Result<Run, Refusal> {
+        run::run(self, held, limits)
+    }
+
+    /// One valid setup with these choices, for so many tries: the first call of such a run.
+    ///
+    /// # Errors
+    /// As for [`run_held`](Formula::run_held).
+    pub fn setup(&self, held: &[i32], budget: u32) -> Result<Setup, Refusal> {
+        run::setup(self, held, budget)
     }
 }

@@ -17,7 +17,7 @@ pub struct Reading {
     pub count: u32,
 }
 
-/// What [`run`] answers; `include/igbezolum.h` has the same as `igb_report`.
+/// What [`run`] and [`setup`] answer; `include/igbezolum.h` has the same as `igb_report`.
 #[repr(C)]
 #[derive(Clone, Copy, Debug, Default, PartialEq, Eq)]
 pub struct Report {
@@ -58,6 +58,8 @@ mod c {
             entries: *const i32,
             entries_len: usize,
             vars: u32,
+            held: *const i32,
+            held_len: usize,
             budget: u32,
             chunk_limit: u32,
             status: *mut u8,
@@ -66,6 +68,16 @@ mod c {
             hints_len: usize,
             log: *mut u32,
             log_len: usize,
+        ) -> Report;
+        pub fn igb_setup(
+            entries: *const i32,
+            entries_len: usize,
+            vars: u32,
+            held: *const i32,
+            held_len: usize,
+            budget: u32,
+            values: *mut u8,
+            values_len: usize,
         ) -> Report;
         pub fn igb_why(
             entries: *const i32,
@@ -78,7 +90,7 @@ mod c {
             values: *mut u8,
             values_len: usize,
         ) -> WhyReport;
-        pub fn igb_table(text: *const u8, text_len: usize, out: *mut u8, out_len: usize) -> usize;
+        pub fn igb_table(text: *const u8, text_len: usize, held: *const i32, held_len: usize, out: *mut u8, out_len: usize) -> usize;
     }
 }
 
@@ -91,10 +103,11 @@ pub fn read(text: &[u8], entries: &mut [i32]) -> Reading {
     unsafe { c::igb_read(text.as_ptr(), text.len(), entries.as_mut_ptr(), entries.len()) }
 }
 
-/// Runs on a list. If it is not refused, the first `vars` statuses and hints and the first `6 * (vars + 1)` log numbers are written.
+/// Runs on a list with literals held. If it is not refused, the first `vars` statuses and hints and the first `6 * (vars + 1)` log numbers are written.
 pub fn run(
     entries: &[i32],
     vars: u32,
+    held: &[i32],
     budget: u32,
     chunk_limit: u32,
     status: &mut [u8],
@@ -102,9 +115,9 @@ pub fn run(
     log: &mut [u32],
 ) -> Report {
     let (s, h, l) = (status.as_mut_ptr(), hints.as_mut_ptr(), log.as_mut_ptr());
-    let (e, n) = (entries.as_ptr(), entries.len());
+    let (e, n, k, m) = (entries.as_ptr(), entries.len(), held.as_ptr(), held.len());
     // SAFETY: as said above.
-    unsafe { c::igb_run(e, n, vars, budget, chunk_limit, s, status.len(), h, hints.len(), l, log.len()) }
+    unsafe { c::igb_run(e, n, vars, k, m, budget, chunk_limit, s, status.len(), h, hints.len(), l, log.len()) }
 }
 
 /// Why a literal is forced. If it is not refused, the first 1,024 marks and the first `vars` values are written.
@@ -115,9 +128,16 @@ pub fn why(entries: &[i32], vars: u32, literal: i32, budget: u32, marks: &mut [u
     unsafe { c::igb_why(e, n, vars, literal, budget, m, marks.len(), v, values.len()) }
 }
 
-/// Puts the table of a text at the start of a buffer and answers its length; 0, and nothing is written, if there is no room for 9,216
-/// bytes.
-pub fn table(text: &[u8], out: &mut [u8]) -> usize {
+/// One valid setup of a list with literals held. If it is not refused, the first `vars` values are written.
+pub fn setup(entries: &[i32], vars: u32, held: &[i32], budget: u32, values: &mut [u8]) -> Report {
+    let (e, n, k, m) = (entries.as_ptr(), entries.len(), held.as_ptr(), held.len());
     // SAFETY: as said above.
-    unsafe { c::igb_table(text.as_ptr(), text.len(), out.as_mut_ptr(), out.len()) }
+    unsafe { c::igb_setup(e, n, vars, k, m, budget, values.as_mut_ptr(), values.len()) }
+}
+
+/// Puts the table of a text with literals held at the start of a buffer and answers its length; 0, and nothing is written, if there is no
+/// room for 9,216 bytes.
+pub fn table(text: &[u8], held: &[i32], out: &mut [u8]) -> usize {
+    // SAFETY: as said above.
+    unsafe { c::igb_table(text.as_ptr(), text.len(), held.as_ptr(), held.len(), out.as_mut_ptr(), out.len()) }
 }

@@ -59,13 +59,15 @@ pub enum Refusal {
     },
     /// 13: a literal that is 0, or whose variable is above the formula's number.
     BadLiteral {
-        /// 0 for the literal that is asked about; of held choices the index of the first one.
+        /// 0 for the literal that is asked about; of held literals the index of the first one.
         index: usize,
     },
+    /// 15: over 256 held literals.
+    ManyHeld,
 }
 
 use Refusal::{
-    BadHeader, BadLimits, BadList, BadLiteral, BadToken, EntryOverVars, LargeHeader, LongText, ManyTokens, ShortBuffer, ShortText,
+    BadHeader, BadLimits, BadList, BadLiteral, BadToken, EntryOverVars, LargeHeader, LongText, ManyHeld, ManyTokens, ShortBuffer, ShortText,
     TokenBehind, TokenOverVars,
 };
 
@@ -88,11 +90,12 @@ impl Refusal {
             11 => BadList { index },
             12 => EntryOverVars { index },
             13 => BadLiteral { index },
+            15 => ManyHeld,
             _ => return None,
         })
     }
 
-    /// The number of the rule, 1 to 13.
+    /// The number of the rule, 1 to 13 or 15.
     #[must_use]
     pub fn number(self) -> u32 {
         match self {
@@ -109,10 +112,11 @@ impl Refusal {
             BadList { .. } => 11,
             EntryOverVars { .. } => 12,
             BadLiteral { .. } => 13,
+            ManyHeld => 15,
         }
     }
 
-    /// The place: a byte of the text (2 to 9), an index of the list (11, 12) or of the held choices (13), else 0.
+    /// The place: a byte of the text (2 to 9), an index of the list (11, 12) or of the held literals (13, 15), else 0.
     #[must_use]
     pub fn place(self) -> usize {
         match self {
@@ -126,6 +130,7 @@ impl Refusal {
             | ManyTokens { byte }
             | ShortText { byte } => byte,
             BadList { index } | EntryOverVars { index } | BadLiteral { index } => index,
+            ManyHeld => crate::HELD_MAX,
         }
     }
 }
@@ -143,6 +148,7 @@ impl fmt::Display for Refusal {
             ManyTokens { .. } => "the 4,097th entry",
             ShortText { .. } => "the text ends inside a clause or before the last one",
             BadLimits => "over 256 variables, or a chunk limit of 0 or over 256",
+            ManyHeld => "over 256 held literals",
             BadList { .. } => "the list is too long, not ended by 0, or has a 1,025th zero",
             BadLiteral { .. } => "a literal that is 0 or above the number of variables",
         };

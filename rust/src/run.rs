@@ -135,13 +135,39 @@ fn row_of(row: &[u32]) -> LogRow {
     LogRow { end, chunk, compared, flipped, tries }
 }
 
-pub fn run(formula: &Formula, limits: Limits) -> Result<Run, Refusal> {
+/// One valid setup that was asked for and not refused.
+#[derive(Clone, Debug, PartialEq, Eq)]
+pub struct Setup {
+    /// How the call ended.
+    pub end: CallEnd,
+    /// Tries taken, within the budget.
+    pub tries: u32,
+    /// With a model its values, that of variable v at v - 1; it is the first one, compared from variable 1 up, false before true. Else empty.
+    pub values: Vec<bool>,
+}
+
+pub fn setup(formula: &Formula, held: &[i32], budget: u32) -> Result<Setup, Refusal> {
+    let mut values = [0; VARS_MAX];
+    let report = raw::setup(formula.entries(), formula.vars(), held, budget, &mut values);
+    if let Some(refusal) = Refusal::of(report.answer, report.place) {
+        return Err(refusal);
+    }
+    let (end, count) = match report.answer {
+        0 => (CallEnd::Model, formula.vars() as usize),
+        20 => (CallEnd::NoModel, 0),
+        21 => (CallEnd::Stopped, 0),
+        other => unreachable!("no answer {other}"),
+    };
+    Ok(Setup { end, tries: report.tries, values: values[..count].iter().map(|&v| v == 1).collect() })
+}
+
+pub fn run(formula: &Formula, held: &[i32], limits: Limits) -> Result<Run, Refusal> {
     // long enough for every formula that is not refused
     let mut status = [0; VARS_MAX];
     let mut hints = [0; VARS_MAX];
     let mut log = [0; ROW * (VARS_MAX + 1)];
     let Limits { budget, chunk_limit } = limits;
-    let report = raw::run(formula.entries(), formula.vars(), budget, chunk_limit, &mut status, &mut hints, &mut log);
+    let report = raw::run(formula.entries(), formula.vars(), held, budget, chunk_limit, &mut status, &mut hints, &mut log);
     if let Some(refusal) = Refusal::of(report.answer, report.place) {
         return Err(refusal);
     }

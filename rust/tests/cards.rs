@@ -27,6 +27,27 @@ fn copy_before_release_is_forced() {
 }
 
 #[test]
+fn what_remains_after_a_choice() {
+    let ring = read(&card("surface_ring")).expect("it keeps the rules");
+    let rules = ring.clauses().count() as u32;
+    let before: Vec<_> = ring.run(Limits::default()).expect("so does its list").forced().collect();
+    let run = ring.run_held(&[12, -5], Limits::default()).expect("so do these");
+    let after: Vec<_> = run.forced().collect();
+    assert_eq!(after, [(1, true), (2, true), (3, true), (5, false), (6, false), (7, false), (8, false), (9, false), (10, false), (11, false), (12, true)]);
+    assert!(before.iter().all(|forced| after.contains(forced)));
+    assert_eq!(run.held_by(12), Some(rules + 1));
+    assert_eq!(ring.run_held(&[], Limits::default()), ring.run(Limits::default()));
+    assert_eq!(ring.run_held(&[12, 11], Limits::default()).expect("so do these").end, End::NoModel);
+
+    let setup = ring.setup(&[12, -5], 100).expect("so do these");
+    let on: Vec<usize> = (1..).zip(&setup.values).filter(|(_, &on)| on).map(|(v, _)| v).collect();
+    assert_eq!((setup.end, on), (CallEnd::Model, vec![1, 2, 3, 12]));
+    let none = ring.setup(&[12, -12], 0).expect("so do these");
+    assert_eq!((none.end, none.tries, none.values.len()), (CallEnd::NoModel, 0, 0));
+    assert_eq!(ring.setup(&[], 0).expect("so does its list").end, CallEnd::Stopped);
+}
+
+#[test]
 fn an_encoder_with_ten_bits() {
     let forced: Vec<_> = run_of(&card("encoder")).forced().collect();
     assert_eq!(forced, [(1, false), (2, true), (3, false), (9, true), (11, false)]);

@@ -1,6 +1,6 @@
 //! Every refusal with its place, the sizes at their limits, and the functions on lent buffers.
 
-use igbezolum::{raw, read, Formula, Limits, Refusal, Status, CLAUSES_MAX, ENTRIES_MAX, TABLE_MAX, TEXT_MAX, VARS_MAX};
+use igbezolum::{raw, read, Formula, Limits, Refusal, Status, CLAUSES_MAX, ENTRIES_MAX, HELD_MAX, TABLE_MAX, TEXT_MAX, VARS_MAX};
 
 /// The text of one clause of so many literals `1`.
 fn ones(literals: usize) -> Vec<u8> {
@@ -56,13 +56,33 @@ fn runs_are_refused() {
 }
 
 #[test]
+fn held_literals_are_refused() {
+    for (vars, list, held, refusal, number, place) in [
+        (1, vec![2, 0], vec![0; HELD_MAX + 1], Refusal::EntryOverVars { index: 0 }, 12, 0),
+        (1, vec![], vec![0; HELD_MAX + 1], Refusal::ManyHeld, 15, HELD_MAX),
+        (1, vec![], vec![1, 0, -2], Refusal::BadLiteral { index: 1 }, 13, 1),
+        (1, vec![], vec![1, -1, -2], Refusal::BadLiteral { index: 2 }, 13, 2),
+        (256, vec![], vec![i32::MIN], Refusal::BadLiteral { index: 0 }, 13, 0),
+    ] {
+        let formula = Formula::new(vars, list);
+        let got = formula.run_held(&held, Limits::default()).expect_err("it breaks a rule");
+        assert_eq!((got, got.number(), got.place()), (refusal, number, place));
+        assert_eq!(formula.setup(&held, 100), Err(refusal));
+    }
+    let most = Formula::new(1, [vec![1; ENTRIES_MAX - 1], vec![0]].concat()).run_held(&[1; HELD_MAX], Limits::default());
+    assert_eq!(most.expect("256 held literals count for themselves").status, [Status::ForcedOn]);
+    assert_eq!(igbezolum::table_held(b"p cnf 1 0\n", &[2]), "refused 13 place 0\n");
+}
+
+#[test]
 fn numbers_and_variants_go_together() {
-    for answer in 1..=13 {
-        let refusal = Refusal::of(answer, 5).expect("1 to 13 are refusals");
+    for answer in (1..=13).chain([15]) {
+        let refusal = Refusal::of(answer, 5).expect("1 to 13 and 15 are refusals");
         assert_eq!(refusal.number(), answer);
         let place = match answer {
             1 | 10 => 0,
             2 => TEXT_MAX,
+            15 => HELD_MAX,
             _ => 5,
         };
         assert_eq!(refusal.place(), place);
@@ -92,18 +112,18 @@ fn a_lent_buffer_is_too_short() {
 
     let (mut status, mut hints, mut log) = ([7; 1], [7; 1], [7; 12]);
     let refused = raw::Report { answer: 1, place: 0, calls: 0, tries: 0, forced: 0, free: 0 };
-    assert_eq!(raw::run(&[1, 0], 1, 100, 1, &mut [], &mut hints, &mut log), refused);
-    assert_eq!(raw::run(&[1, 0], 1, 100, 1, &mut status, &mut [], &mut log), refused);
-    assert_eq!(raw::run(&[1, 0], 1, 100, 1, &mut status, &mut hints, &mut log[..11]), refused);
+    assert_eq!(raw::run(&[1, 0], 1, &[], 100, 1, &mut [], &mut hints, &mut log), refused);
+    assert_eq!(raw::run(&[1, 0], 1, &[], 100, 1, &mut status, &mut [], &mut log), refused);
+    assert_eq!(raw::run(&[1, 0], 1, &[], 100, 1, &mut status, &mut hints, &mut log[..11]), refused);
     assert_eq!((status, hints, log), ([7; 1], [7; 1], [7; 12]));
     let forced = raw::Report { answer: 0, place: 0, calls: 2, tries: 0, forced: 1, free: 0 };
-    assert_eq!(raw::run(&[1, 0], 1, 100, 1, &mut status, &mut hints, &mut log), forced);
+    assert_eq!(raw::run(&[1, 0], 1, &[], 100, 1, &mut status, &mut hints, &mut log), forced);
     assert_eq!((status, hints, log), ([2], [1], [1, 1, 0, 0, 0, 0, 2, 2, 1, 0, 0, 0]));
 
     let mut out = vec![7; TABLE_MAX];
-    assert_eq!(raw::table(text, &mut out[1..]), 0);
+    assert_eq!(raw::table(text, &[], &mut out[1..]), 0);
     assert!(out.iter().all(|&b| b == 7));
-    let length = raw::table(text, &mut out);
+    let length = raw::table(text, &[], &mut out);
     assert_eq!(&out[..length], b"answer 0 calls 2 tries 0 forced 1 free 0 open 0\n1 forced on held by clause 1\n");
     assert!(out[length..].iter().all(|&b| b == 7));
 }

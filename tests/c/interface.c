@@ -130,7 +130,23 @@ typedef struct {
     const int32_t *list;
     size_t len;
     uint32_t vars, budget, chunk_limit;
+    const int32_t *held;
+    size_t held_len;
 } given;
+
+/* With nothing held. */
+static given plain(const int32_t *list, size_t len, uint32_t vars, uint32_t budget, uint32_t chunk_limit)
+{
+    return (given){list, len, vars, budget, chunk_limit, NULL, 0};
+}
+
+/* The same with literals held. */
+static given holding(given g, const int32_t *held, size_t held_len)
+{
+    g.held = held;
+    g.held_len = held_len;
+    return g;
+}
 
 /* How much room a run is lent. */
 typedef struct {
@@ -150,11 +166,12 @@ static void runs(const char *what, given g, lengths lens, igb_report expected, f
     for (size_t k = 0; k < LEN(paints); k++) {
         painted s = paint(lens.status, paints[k]), l = paint(lens.log * sizeof(uint32_t), paints[k] + 7);
         painted h = paint(lens.hints * sizeof(uint32_t), paints[k] + 3);
-        int32_t *lent = copied(g.list, g.len * sizeof(int32_t));
-        igb_report got = igb_run(lent, g.len, g.vars, g.budget, g.chunk_limit, s.start, lens.status, (uint32_t *)(void *)h.start, lens.hints,
-                                 (uint32_t *)(void *)l.start, lens.log);
+        int32_t *lent = copied(g.list, g.len * sizeof(int32_t)), *held = copied(g.held, g.held_len * sizeof(int32_t));
+        igb_report got = igb_run(lent, g.len, g.vars, held, g.held_len, g.budget, g.chunk_limit, s.start, lens.status,
+                                 (uint32_t *)(void *)h.start, lens.hints, (uint32_t *)(void *)l.start, lens.log);
         CHECK(memcmp(&got, &expected, sizeof got) == 0, what);
         CHECK(g.len == 0 || memcmp(lent, g.list, g.len * sizeof(int32_t)) == 0, what);
+        CHECK(g.held_len == 0 || memcmp(held, g.held, g.held_len * sizeof(int32_t)) == 0, what);
         CHECK(kept(&s, refused ? 0 : g.vars), what);
         CHECK(kept(&h, refused ? 0 : g.vars * sizeof(uint32_t)), what);
         CHECK(kept(&l, log_bytes), what);
@@ -168,6 +185,7 @@ static void runs(const char *what, given g, lengths lens, igb_report expected, f
             free(full);
         }
         free(lent);
+        free(held);
         drop(&s);
         drop(&h);
         drop(&l);
@@ -229,58 +247,154 @@ static void runnings(void)
 {
     for (size_t i = 0; i < LEN(smalls); i++) {
         const small *s = &smalls[i];
-        runs_list(s->what, (given){s->list, s->len, s->vars, s->budget, s->chunk_limit}, s->expected,
+        runs_list(s->what, plain(s->list, s->len, s->vars, s->budget, s->chunk_limit), s->expected,
                   (filled){s->status, s->hints, s->rows});
     }
     static const int32_t unit[] = {1, 0}, not_ended[] = {1, 0, -1}, above[] = {1, 0, 2, 0, 3, 0}, least[] = {1, INT32_MIN, 0, -2, 0};
     static const int32_t both[] = {2, 0, 2};
-    refuses_run("257 variables", (given){unit, 2, 257, 100, 2}, 300, 1600, IGB_BAD_LIMITS, 0);
-    refuses_run("the most variables", (given){unit, 2, UINT32_MAX, 100, 2}, 300, 1600, IGB_BAD_LIMITS, 0);
-    refuses_run("chunk limit 0", (given){unit, 2, 1, 100, 0}, 1, 12, IGB_BAD_LIMITS, 0);
-    refuses_run("chunk limit 257", (given){unit, 2, 1, 100, 257}, 1, 12, IGB_BAD_LIMITS, 0);
-    refuses_run("the largest chunk limit", (given){unit, 2, 1, 100, UINT32_MAX}, 1, 12, IGB_BAD_LIMITS, 0);
-    refuses_run("not ended by 0", (given){not_ended, 3, 1, 100, 2}, 1, 12, IGB_BAD_LIST, 3);
-    refuses_run("a variable above", (given){above, 6, 1, 100, 2}, 1, 12, IGB_ENTRY_OVER_VARS, 2);
-    refuses_run("a variable and no variables", (given){unit, 2, 0, 100, 2}, 0, 6, IGB_ENTRY_OVER_VARS, 0);
-    refuses_run("the least literal", (given){least, 5, 1, 100, 2}, 1, 12, IGB_ENTRY_OVER_VARS, 1);
-    refuses_run("the least literal, all variables", (given){least, 5, 256, 100, 2}, 256, 1542, IGB_ENTRY_OVER_VARS, 1);
-    refuses_run("10 comes before 1", (given){both, 3, 1, 100, 0}, 0, 0, IGB_BAD_LIMITS, 0);
-    refuses_run("1 comes before 11", (given){both, 3, 1, 100, 2}, 0, 12, IGB_SHORT_BUFFER, 0);
-    refuses_run("11 comes before 12", (given){both, 3, 1, 100, 2}, 1, 12, IGB_BAD_LIST, 3);
+    refuses_run("257 variables", plain(unit, 2, 257, 100, 2), 300, 1600, IGB_BAD_LIMITS, 0);
+    refuses_run("the most variables", plain(unit, 2, UINT32_MAX, 100, 2), 300, 1600, IGB_BAD_LIMITS, 0);
+    refuses_run("chunk limit 0", plain(unit, 2, 1, 100, 0), 1, 12, IGB_BAD_LIMITS, 0);
+    refuses_run("chunk limit 257", plain(unit, 2, 1, 100, 257), 1, 12, IGB_BAD_LIMITS, 0);
+    refuses_run("the largest chunk limit", plain(unit, 2, 1, 100, UINT32_MAX), 1, 12, IGB_BAD_LIMITS, 0);
+    refuses_run("not ended by 0", plain(not_ended, 3, 1, 100, 2), 1, 12, IGB_BAD_LIST, 3);
+    refuses_run("a variable above", plain(above, 6, 1, 100, 2), 1, 12, IGB_ENTRY_OVER_VARS, 2);
+    refuses_run("a variable and no variables", plain(unit, 2, 0, 100, 2), 0, 6, IGB_ENTRY_OVER_VARS, 0);
+    refuses_run("the least literal", plain(least, 5, 1, 100, 2), 1, 12, IGB_ENTRY_OVER_VARS, 1);
+    refuses_run("the least literal, all variables", plain(least, 5, 256, 100, 2), 256, 1542, IGB_ENTRY_OVER_VARS, 1);
+    refuses_run("10 comes before 1", plain(both, 3, 1, 100, 0), 0, 0, IGB_BAD_LIMITS, 0);
+    refuses_run("1 comes before 11", plain(both, 3, 1, 100, 2), 0, 12, IGB_SHORT_BUFFER, 0);
+    refuses_run("11 comes before 12", plain(both, 3, 1, 100, 2), 1, 12, IGB_BAD_LIST, 3);
 
     static int32_t many[IGB_ENTRIES_MAX + 1];
     static const uint32_t none[] = {1, 2, 0, 0, 0, 0}, forced[] = {1, 1, 0, 0, 0, 0, 2, 2, 1, 0, 0, 0};
     static const uint32_t zeros[IGB_HINTS_LEN], one[] = {1};
     const uint8_t on = IGB_FORCED_ON, open = IGB_OPEN;
-    runs_list("1,024 zeros", (given){many, 1024, 1, 100, 2}, (igb_report){IGB_NO_MODEL, 0, 1, 0, 0, 0},
+    runs_list("1,024 zeros", plain(many, 1024, 1, 100, 2), (igb_report){IGB_NO_MODEL, 0, 1, 0, 0, 0},
               (filled){&open, zeros, none});
-    refuses_run("a 1,025th zero", (given){many, 1025, 1, 100, 2}, 1, 12, IGB_BAD_LIST, 1024);
+    refuses_run("a 1,025th zero", plain(many, 1025, 1, 100, 2), 1, 12, IGB_BAD_LIST, 1024);
     many[1500] = 2;
-    refuses_run("a 1,025th zero before a variable above", (given){many, 4096, 1, 100, 2}, 1, 12, IGB_BAD_LIST, 1024);
-    refuses_run("4,097 entries", (given){many, 4097, 1, 100, 2}, 1, 12, IGB_BAD_LIST, 4096);
+    refuses_run("a 1,025th zero before a variable above", plain(many, 4096, 1, 100, 2), 1, 12, IGB_BAD_LIST, 1024);
+    refuses_run("4,097 entries", plain(many, 4097, 1, 100, 2), 1, 12, IGB_BAD_LIST, 4096);
     for (size_t i = 0; i < IGB_ENTRIES_MAX; i++)
         many[i] = 1;
-    refuses_run("4,096 entries and no 0", (given){many, 4096, 1, 100, 2}, 1, 12, IGB_BAD_LIST, 4096);
+    refuses_run("4,096 entries and no 0", plain(many, 4096, 1, 100, 2), 1, 12, IGB_BAD_LIST, 4096);
     many[IGB_ENTRIES_MAX - 1] = 0;
-    runs_list("4,096 entries", (given){many, 4096, 1, 100, 256}, (igb_report){IGB_OK, 0, 2, 0, 1, 0},
+    runs_list("4,096 entries", plain(many, 4096, 1, 100, 256), (igb_report){IGB_OK, 0, 2, 0, 1, 0},
               (filled){&on, one, forced});
 
     uint8_t all[IGB_STATUS_LEN];
     memset(all, IGB_FREE, sizeof all);
     static const uint32_t once[] = {1, 1, 0, 0, 256, 256};
-    runs_list("256 variables", (given){NULL, 0, 256, UINT32_MAX, 256}, (igb_report){IGB_OK, 0, 1, 256, 0, 256},
+    runs_list("256 variables", plain(NULL, 0, 256, UINT32_MAX, 256), (igb_report){IGB_OK, 0, 1, 256, 0, 256},
               (filled){all, zeros, once});
+}
+
+/* ---- held literals */
+
+static void holdings(void)
+{
+    static const int32_t three[] = {1, 2, 3, 0}, forced[] = {1, 2, 0, 1, -2, 0}, above[] = {2, 0};
+    static const int32_t on[] = {1}, both[] = {1, -1}, off[] = {-1}, two_off[] = {-1, -2}, twice[] = {-1, -1};
+    static const int32_t zero[] = {1, 0}, over[] = {-1, 1, -2, 0}, least[] = {INT32_MIN};
+    const given nothing = plain(NULL, 0, 1, 100, 2);
+    const uint8_t forced_on = IGB_FORCED_ON, forced_off = IGB_FORCED_OFF, open[2] = {IGB_OPEN, IGB_OPEN};
+    static const uint32_t one[] = {1}, none[2] = {0, 0}, call[] = {1, 2, 0, 0, 0, 0};
+    static const uint32_t calls[] = {1, 1, 0, 0, 0, 0, 2, 2, 1, 0, 0, 0};
+    runs_list("1 held", holding(nothing, on, 1), (igb_report){IGB_OK, 0, 2, 0, 1, 0}, (filled){&forced_on, one, calls});
+    runs_list("-1 held twice", holding(nothing, twice, 2), (igb_report){IGB_OK, 0, 2, 0, 1, 0}, (filled){&forced_off, one, calls});
+    runs_list("both signs", holding(plain(NULL, 0, 1, 0, 2), both, 2), (igb_report){IGB_NO_MODEL, 0, 1, 0, 0, 0},
+              (filled){open, none, call});
+    const given card = plain(three, 4, 3, 100, 2);
+    static const uint8_t rest[] = {3, 1, 1}, settled[] = {3, 3, 2};
+    static const uint32_t rest_hints[] = {2, 0, 1}, hints[] = {2, 3, 1};
+    static const uint32_t rest_rows[] = {1, 1, 0, 0, 1, 1, 2, 2, 1, 0, 0, 0, 3, 1, 1, 1, 0, 0};
+    static const uint32_t rows[] = {1, 1, 0, 0, 0, 0, 2, 2, 1, 0, 0, 0, 3, 2, 2, 0, 0, 0};
+    runs_list("`1 2 3 0` with -1", holding(card, off, 1), (igb_report){IGB_OK, 0, 3, 1, 1, 2}, (filled){rest, rest_hints, rest_rows});
+    runs_list("`1 2 3 0` with -1 and -2", holding(card, two_off, 2), (igb_report){IGB_OK, 0, 3, 0, 3, 0}, (filled){settled, hints, rows});
+    runs_list("what the formula excludes", holding(plain(forced, 6, 2, 100, 2), off, 1), (igb_report){IGB_NO_MODEL, 0, 1, 0, 0, 0},
+              (filled){open, none, call});
+
+    static int32_t ones[IGB_HELD_MAX + 1], zeros[IGB_HELD_MAX + 1], many[IGB_ENTRIES_MAX];
+    for (size_t i = 0; i < LEN(ones); i++)
+        ones[i] = 1;
+    runs_list("256 held", holding(nothing, ones, 256), (igb_report){IGB_OK, 0, 2, 0, 1, 0}, (filled){&forced_on, one, calls});
+    refuses_run("257 held", holding(nothing, ones, 257), 1, 12, IGB_MANY_HELD, 256);
+    refuses_run("0 held", holding(nothing, zero, 2), 1, 12, IGB_BAD_LITERAL, 1);
+    refuses_run("V + 1 held", holding(nothing, over, 4), 1, 12, IGB_BAD_LITERAL, 2);
+    refuses_run("the least literal held", holding(nothing, least, 1), 1, 12, IGB_BAD_LITERAL, 0);
+    refuses_run("held with no variable", holding(plain(NULL, 0, 0, 100, 2), on, 1), 0, 6, IGB_BAD_LITERAL, 0);
+    refuses_run("12 comes before 15", holding(plain(above, 2, 1, 100, 2), ones, 257), 1, 12, IGB_ENTRY_OVER_VARS, 0);
+    refuses_run("12 comes before 13", holding(plain(above, 2, 1, 100, 2), zero, 2), 1, 12, IGB_ENTRY_OVER_VARS, 0);
+    refuses_run("15 comes before 13", holding(nothing, zeros, 257), 1, 12, IGB_MANY_HELD, 256);
+    runs_list("1,024 clauses and 256 held", holding(plain(many, 1024, 1, 100, 2), ones, 256),
+              (igb_report){IGB_NO_MODEL, 0, 1, 0, 0, 0}, (filled){open, none, call});
+    for (size_t i = 0; i + 1 < IGB_ENTRIES_MAX; i++)
+        many[i] = 1;
+    runs_list("4,096 entries and 256 held", holding(plain(many, 4096, 1, 100, 2), ones, 256), (igb_report){IGB_OK, 0, 2, 0, 1, 0},
+              (filled){&forced_on, one, calls});
+}
+
+/* ---- one valid setup */
+
+static void sets_up(const char *what, given g, size_t values_len, igb_report expected, const uint8_t *values)
+{
+    int refused = expected.answer != IGB_OK && expected.answer != IGB_NO_MODEL && expected.answer != IGB_STOPPED;
+    for (size_t k = 0; k < LEN(paints); k++) {
+        painted p = paint(values_len, paints[k]);
+        int32_t *lent = copied(g.list, g.len * sizeof(int32_t)), *held = copied(g.held, g.held_len * sizeof(int32_t));
+        igb_report got = igb_setup(lent, g.len, g.vars, held, g.held_len, g.budget, p.start, values_len);
+        CHECK(memcmp(&got, &expected, sizeof got) == 0, what);
+        CHECK(g.len == 0 || memcmp(lent, g.list, g.len * sizeof(int32_t)) == 0, what);
+        CHECK(g.held_len == 0 || memcmp(held, g.held, g.held_len * sizeof(int32_t)) == 0, what);
+        CHECK(kept(&p, refused ? 0 : g.vars), what);
+        CHECK(refused || g.vars == 0 || memcmp(p.start, values, g.vars) == 0, what);
+        free(lent);
+        free(held);
+        drop(&p);
+    }
+}
+
+/* With exact room, with more, and with a byte too few. */
+static void sets_up_list(const char *what, given g, igb_report expected, const uint8_t *values)
+{
+    sets_up(what, g, g.vars, expected, values);
+    sets_up(what, g, g.vars + 9, expected, values);
+    if (g.vars)
+        sets_up(what, g, g.vars - 1, (igb_report){IGB_SHORT_BUFFER, 0, 0, 0, 0, 0}, NULL);
+}
+
+static void setups(void)
+{
+    static const int32_t list[] = {1, 2, 0, 1, -2, 0}, above[] = {2, 0}, not_ended[] = {1};
+    static const int32_t two[] = {2}, off[] = {-1}, both[] = {3, -3}, over[] = {1, -2}, ones[IGB_HELD_MAX + 1] = {1};
+    static const uint8_t first[] = {1, 0}, second[] = {1, 1}, zeros[] = {0, 0, 0}, stop[] = {1, 0, 0};
+    sets_up_list("the first setup", plain(list, 6, 2, 100, 0), (igb_report){IGB_OK, 0, 1, 3, 0, 0}, first);
+    sets_up_list("with 2 held", holding(plain(list, 6, 2, 100, 0), two, 1), (igb_report){IGB_OK, 0, 1, 0, 0, 0}, second);
+    sets_up_list("with -1 held", holding(plain(list, 6, 2, 100, 0), off, 1), (igb_report){IGB_NO_MODEL, 0, 1, 0, 0, 0}, zeros);
+    sets_up_list("with both signs", holding(plain(NULL, 0, 3, 0, 0), both, 2), (igb_report){IGB_NO_MODEL, 0, 1, 0, 0, 0}, zeros);
+    sets_up_list("budget 2", holding(plain(NULL, 0, 3, 2, 0), over, 1), (igb_report){IGB_OK, 0, 1, 2, 0, 0}, stop);
+    sets_up_list("budget 1", holding(plain(NULL, 0, 3, 1, 0), over, 1), (igb_report){IGB_STOPPED, 0, 1, 1, 0, 0}, zeros);
+    sets_up_list("no variable", plain(NULL, 0, 0, 0, 0), (igb_report){IGB_OK, 0, 1, 0, 0, 0}, NULL);
+    sets_up("257 variables", plain(NULL, 0, 257, 100, 0), 300, (igb_report){IGB_BAD_LIMITS, 0, 0, 0, 0, 0}, NULL);
+    sets_up("10 comes before 1", plain(NULL, 0, 257, 100, 0), 0, (igb_report){IGB_BAD_LIMITS, 0, 0, 0, 0, 0}, NULL);
+    sets_up("1 comes before 11", plain(not_ended, 1, 1, 100, 0), 0, (igb_report){IGB_SHORT_BUFFER, 0, 0, 0, 0, 0}, NULL);
+    sets_up("not ended by 0", plain(not_ended, 1, 1, 100, 0), 1, (igb_report){IGB_BAD_LIST, 1, 0, 0, 0, 0}, NULL);
+    sets_up("12 comes before 13", holding(plain(above, 2, 1, 100, 0), over, 2), 1, (igb_report){IGB_ENTRY_OVER_VARS, 0, 0, 0, 0, 0}, NULL);
+    sets_up("257 held", holding(plain(NULL, 0, 1, 100, 0), ones, 257), 1, (igb_report){IGB_MANY_HELD, 256, 0, 0, 0, 0}, NULL);
+    sets_up("V + 1 held", holding(plain(NULL, 0, 1, 100, 0), over, 2), 1, (igb_report){IGB_BAD_LITERAL, 1, 0, 0, 0, 0}, NULL);
 }
 
 /* ---- the table */
 
-static void prints(const char *what, const void *text, size_t len, size_t out_len, const char *expected)
+/* The table of a text with a literal held, 0 for none. */
+static void prints_held(const char *what, const void *text, size_t len, int32_t literal, size_t out_len, const char *expected)
 {
     size_t expected_len = strlen(expected);
     for (size_t k = 0; k < LEN(paints); k++) {
         painted p = paint(out_len, paints[k]);
         uint8_t *lent = copied(text, len);
-        CHECK(igb_table(lent, len, p.start, out_len) == expected_len, what);
+        CHECK(igb_table(lent, len, &literal, literal != 0, p.start, out_len) == expected_len, what);
         CHECK(len == 0 || memcmp(lent, text, len) == 0, what);
         CHECK(expected_len <= out_len && memcmp(p.start, expected, expected_len) == 0, what);
         CHECK(kept(&p, expected_len), what);
@@ -289,8 +403,19 @@ static void prints(const char *what, const void *text, size_t len, size_t out_le
     }
 }
 
+static void prints(const char *what, const void *text, size_t len, size_t out_len, const char *expected)
+{
+    prints_held(what, text, len, 0, out_len, expected);
+}
+
 static void tables(void)
 {
+    static const char small[] = "p cnf 2 2\n1 2 0 1 -2 0\n";
+    prints_held("2 held", small, strlen(small), 2, IGB_TABLE_LEN,
+                "answer 0 calls 3 tries 0 forced 2 free 0 open 0\n1 forced on held by clause 2\n2 forced on held by clause 3\n");
+    prints_held("-1 held", small, strlen(small), -1, IGB_TABLE_LEN, "answer 20 calls 1 tries 0 forced 0 free 0 open 2\n");
+    prints_held("3 held", small, strlen(small), 3, IGB_TABLE_LEN, "refused 13 place 0\n");
+    prints_held("-3 held, short room", small, strlen(small), -3, IGB_TABLE_LEN - 1, "");
     static const struct {
         const char *text, *table;
     } cases[] = {
@@ -330,12 +455,14 @@ static void nulls(void)
     igb_reading none = igb_read(NULL, 0, NULL, 0), empty = igb_read(NULL, 0, entries, IGB_ENTRIES_LEN);
     CHECK(none.answer == IGB_SHORT_BUFFER && none.place == 0 && none.vars == 0 && none.clauses == 0 && none.count == 0, what);
     CHECK(empty.answer == IGB_BAD_HEADER && empty.place == 0 && empty.count == 0 && entries[0] == 0, what);
-    CHECK(is_report(igb_run(NULL, 0, 0, 100, 2, NULL, 0, NULL, 0, NULL, 0), (igb_report){IGB_SHORT_BUFFER, 0, 0, 0, 0, 0}), what);
-    CHECK(is_report(igb_run(NULL, 0, 0, 100, 0, NULL, 0, NULL, 0, NULL, 0), (igb_report){IGB_BAD_LIMITS, 0, 0, 0, 0, 0}), what);
-    CHECK(is_report(igb_run(NULL, 0, 0, 100, 2, NULL, 0, NULL, 0, log, 6), (igb_report){IGB_OK, 0, 1, 0, 0, 0}), what);
-    CHECK(is_report(igb_run(NULL, 0, 1, 100, 2, out, 1, &hint, 1, log, 12), (igb_report){IGB_OK, 0, 1, 1, 0, 1}), what);
-    CHECK(igb_table(NULL, 0, NULL, 0) == 0, what);
-    CHECK(igb_table(NULL, 0, out, IGB_TABLE_LEN) == 18 && memcmp(out, "refused 3 place 0\n", 18) == 0, what);
+    CHECK(is_report(igb_run(NULL, 0, 0, NULL, 0, 100, 2, NULL, 0, NULL, 0, NULL, 0), (igb_report){IGB_SHORT_BUFFER, 0, 0, 0, 0, 0}), what);
+    CHECK(is_report(igb_run(NULL, 0, 0, NULL, 0, 100, 0, NULL, 0, NULL, 0, NULL, 0), (igb_report){IGB_BAD_LIMITS, 0, 0, 0, 0, 0}), what);
+    CHECK(is_report(igb_run(NULL, 0, 0, NULL, 0, 100, 2, NULL, 0, NULL, 0, log, 6), (igb_report){IGB_OK, 0, 1, 0, 0, 0}), what);
+    CHECK(is_report(igb_run(NULL, 0, 1, NULL, 0, 100, 2, out, 1, &hint, 1, log, 12), (igb_report){IGB_OK, 0, 1, 1, 0, 1}), what);
+    CHECK(is_report(igb_setup(NULL, 0, 0, NULL, 0, 100, NULL, 0), (igb_report){IGB_OK, 0, 1, 0, 0, 0}), what);
+    CHECK(is_report(igb_setup(NULL, 0, 1, NULL, 0, 100, NULL, 0), (igb_report){IGB_SHORT_BUFFER, 0, 0, 0, 0, 0}), what);
+    CHECK(igb_table(NULL, 0, NULL, 0, NULL, 0) == 0, what);
+    CHECK(igb_table(NULL, 0, NULL, 0, out, IGB_TABLE_LEN) == 18 && memcmp(out, "refused 3 place 0\n", 18) == 0, what);
 }
 
 int main(void)
@@ -343,6 +470,8 @@ int main(void)
     layout();
     readings();
     runnings();
+    holdings();
+    setups();
     tables();
     nulls();
     return ended("interface");

@@ -31,7 +31,7 @@ static void *read_largest(void *unused)
 
 static void *run_deepest(void *unused)
 {
-    igb_report got = igb_run(entries, 0, 256, UINT32_MAX, 256, status, IGB_STATUS_LEN, hints, IGB_HINTS_LEN, log_rows, IGB_LOG_LEN);
+    igb_report got = igb_run(entries, 0, 256, NULL, 0, UINT32_MAX, 256, status, IGB_STATUS_LEN, hints, IGB_HINTS_LEN, log_rows, IGB_LOG_LEN);
     CHECK(got.answer == IGB_OK && got.tries == 256 && got.free == 256, "the deepest run");
     return unused;
 }
@@ -45,7 +45,14 @@ static void *why_deepest(void *unused)
 
 static void *table_deepest(void *unused)
 {
-    CHECK(igb_table((const uint8_t *)"p cnf 256 0", 11, table, IGB_TABLE_LEN) > 256, "the deepest table");
+    CHECK(igb_table((const uint8_t *)"p cnf 256 0", 11, NULL, 0, table, IGB_TABLE_LEN) > 256, "the deepest table");
+    return unused;
+}
+
+static void *setup_deepest(void *unused)
+{
+    igb_report got = igb_setup(entries, 0, 256, NULL, 0, UINT32_MAX, status, IGB_STATUS_LEN);
+    CHECK(got.answer == IGB_OK && got.tries == 256 && got.calls == 1, "the deepest setup");
     return unused;
 }
 
@@ -78,8 +85,8 @@ int main(void)
     static const struct {
         const char *name;
         void *(*call)(void *);
-    } calls[] = {{"a thread alone", nothing}, {"igb_read", read_largest}, {"igb_run", run_deepest}, {"igb_why", why_deepest},
-                 {"igb_table", table_deepest}};
+    } calls[] = {{"a thread alone", nothing}, {"igb_read", read_largest}, {"igb_run", run_deepest}, {"igb_setup", setup_deepest},
+                 {"igb_why", why_deepest}, {"igb_table", table_deepest}};
     for (size_t i = 0; i < sizeof calls / sizeof *calls; i++) {
         size_t bytes = used(calls[i].call, LARGE);
         CHECK(bytes < IGB_STACK_BYTES, calls[i].name);

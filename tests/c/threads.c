@@ -1,5 +1,5 @@
 /*
- * Two threads at once, each on buffers of its own, get what one thread alone gets: readings, runs and tables of different cards. Words:
+ * Two threads at once, each on buffers of its own, get what one thread alone gets: readings, runs, setups and tables of different cards. Words:
  * how many rounds (200 if none is given).
  */
 #include "check.h"
@@ -17,9 +17,9 @@ enum { CARDS = sizeof cards / sizeof *cards };
 /* All that the library says of a card. */
 typedef struct {
     igb_reading reading;
-    igb_report report;
+    igb_report report, set;
     int32_t entries[IGB_ENTRIES_LEN];
-    uint8_t status[IGB_STATUS_LEN], table[IGB_TABLE_LEN];
+    uint8_t status[IGB_STATUS_LEN], table[IGB_TABLE_LEN], values[IGB_VALUES_LEN];
     uint32_t hints[IGB_HINTS_LEN], log[IGB_LOG_LEN];
     size_t table_len;
 } said;
@@ -31,10 +31,12 @@ static void ask(const char *card, said *s)
 {
     memset(s, 0, sizeof *s);
     const uint8_t *text = (const uint8_t *)card;
+    static const int32_t held[] = {1};
     s->reading = igb_read(text, strlen(card), s->entries, IGB_ENTRIES_LEN);
-    s->report = igb_run(s->entries, s->reading.count, s->reading.vars, IGB_TABLE_BUDGET, IGB_TABLE_CHUNK, s->status, IGB_STATUS_LEN,
+    s->report = igb_run(s->entries, s->reading.count, s->reading.vars, NULL, 0, IGB_TABLE_BUDGET, IGB_TABLE_CHUNK, s->status, IGB_STATUS_LEN,
                         s->hints, IGB_HINTS_LEN, s->log, IGB_LOG_LEN);
-    s->table_len = igb_table(text, strlen(card), s->table, IGB_TABLE_LEN);
+    s->set = igb_setup(s->entries, s->reading.count, s->reading.vars, held, 1, IGB_TABLE_BUDGET, s->values, IGB_VALUES_LEN);
+    s->table_len = igb_table(text, strlen(card), NULL, 0, s->table, IGB_TABLE_LEN);
 }
 
 /* How often this thread got something else; the cards are asked from `from` on. */

@@ -1,17 +1,18 @@
 //! A case: one call of the library and the seed of the paint of its buffers. As a file it is lines of a word and what it is:
 //!
-//!   call run           or read, or why, or table
+//!   call run           or read, setup, why, or table
 //!   paint 1
-//!   vars 3             run: variables, budget, chunk limit, lengths of the buffers, and the list
+//!   vars 3             run and setup: variables, budget, and the list
 //!   budget 100
-//!   chunk_limit 2
+//!   entries 1 2 3 0
+//!   chunk_limit 2      run: chunk limit, and lengths of the buffers
 //!   status_len 3
 //!   hints_len 3
 //!   log_len 24
-//!   entries 1 2 3 0
+//!   values_len 3       setup and why: length of the buffer
+//!   held -1 2          run, setup and table: the literals held; none if there is no such line
 //!   literal -3         why: this, lengths of the buffers, and vars, budget and entries as above
 //!   marks_len 1024
-//!   values_len 3
 //!   room 9216          read and table: length of the buffer, and the text, with \n \t \r \\ and \xHH for what is not printed
 //!   text p cnf 1 1\n1 0\n
 
@@ -25,9 +26,19 @@ pub const MAX_TABLE: usize = 9_216;
 #[derive(Clone)]
 pub enum Call {
     Read { text: Vec<u8>, room: usize },
-    Run { entries: Vec<i32>, vars: u32, budget: u32, chunk_limit: u32, status_len: usize, hints_len: usize, log_len: usize },
+    Run {
+        entries: Vec<i32>,
+        vars: u32,
+        held: Vec<i32>,
+        budget: u32,
+        chunk_limit: u32,
+        status_len: usize,
+        hints_len: usize,
+        log_len: usize,
+    },
+    Setup { entries: Vec<i32>, vars: u32, held: Vec<i32>, budget: u32, values_len: usize },
     Why { entries: Vec<i32>, vars: u32, literal: i32, budget: u32, marks_len: usize, values_len: usize },
-    Table { text: Vec<u8>, room: usize },
+    Table { text: Vec<u8>, held: Vec<i32>, room: usize },
 }
 
 #[derive(Clone)]
@@ -41,6 +52,7 @@ impl Call {
         match self {
             Call::Read { .. } => "read",
             Call::Run { .. } => "run",
+            Call::Setup { .. } => "setup",
             Call::Why { .. } => "why",
             Call::Table { .. } => "table",
         }
@@ -60,6 +72,10 @@ fn escaped(text: &[u8]) -> String {
         }
     }
     out
+}
+
+fn words(list: &[i32]) -> String {
+    list.iter().map(i32::to_string).collect::<Vec<_>>().join(" ")
 }
 
 fn unescaped(word: &str) -> Option<Vec<u8>> {
@@ -84,23 +100,24 @@ fn unescaped(word: &str) -> Option<Vec<u8>> {
     Some(out)
 }
 
-fn joined(entries: &[i32]) -> String {
-    entries.iter().map(i32::to_string).collect::<Vec<_>>().join(" ")
-}
-
 impl fmt::Display for Case {
     fn fmt(&self, f: &mut fmt::Formatter<'_>) -> fmt::Result {
         writeln!(f, "call {}\npaint {}", self.call.name(), self.paint)?;
         match &self.call {
-            Call::Read { text, room } | Call::Table { text, room } => writeln!(f, "room {room}\ntext {}", escaped(text)),
-            Call::Run { entries, vars, budget, chunk_limit, status_len, hints_len, log_len } => {
+            Call::Read { text, room } => writeln!(f, "room {room}\ntext {}", escaped(text)),
+            Call::Table { text, held, room } => writeln!(f, "room {room}\nheld {}\ntext {}", words(held), escaped(text)),
+            Call::Run { entries, vars, held, budget, chunk_limit, status_len, hints_len, log_len } => {
                 writeln!(f, "vars {vars}\nbudget {budget}\nchunk_limit {chunk_limit}")?;
                 writeln!(f, "status_len {status_len}\nhints_len {hints_len}\nlog_len {log_len}")?;
-                writeln!(f, "entries {}", joined(entries))
+                writeln!(f, "held {}\nentries {}", words(held), words(entries))
+            }
+            Call::Setup { entries, vars, held, budget, values_len } => {
+                writeln!(f, "vars {vars}\nbudget {budget}\nvalues_len {values_len}")?;
+                writeln!(f, "held {}\nentries {}", words(held), words(entries))
             }
             Call::Why { entries, vars, literal, budget, marks_len, values_len } => {
                 writeln!(f, "vars {vars}\nliteral {literal}\nbudget {budget}\nmarks_len {marks_len}\nvalues_len {values_len}")?;
-                writeln!(f, "entries {}", joined(entries))
+                writeln!(f, "entries {}", words(entries))
             }
         }
     }
@@ -115,14 +132,23 @@ impl FromStr for Case {
         fn number<T: FromStr>(word: &str) -> Result<T, String> {
             word.parse().map_err(|_| format!("'{word}' is not such a number"))
         }
-        let entries = || word("entries")?.split_whitespace().map(number).collect::<Result<Vec<i32>, _>>();
         let text = || unescaped(word("text")?).ok_or("the text is malformed".to_string());
+        let list = |word: &str| word.split_whitespace().map(number).collect::<Result<Vec<i32>, String>>();
+        let held = || list(lines.get("held").copied().unwrap_or(""));
         let call = match word("call")? {
             "read" => Call::Read { text: text()?, room: number(word("room")?)? },
-            "table" => Call::Table { text: text()?, room: number(word("room")?)? },
-            "run" => Call::Run {
-                entries: entries()?,
+            "table" => Call::Table { text: text()?, held: held()?, room: number(word("room")?)? },
+            "setup" => Call::Setup {
+                entries: list(word("entries")?)?,
                 vars: number(word("vars")?)?,
+                held: held()?,
+                budget: number(word("budget")?)?,
+                values_len: number(word("values_len")?)?,
+            },
+            "run" => Call::Run {
+                entries: list(word("entries")?)?,
+                vars: number(word("vars")?)?,
+                held: held()?,
                 budget: number(word("budget")?)?,
                 chunk_limit: number(word("chunk_limit")?)?,
                 status_len: number(word("status_len")?)?,
@@ -130,7 +156,7 @@ impl FromStr for Case {
                 log_len: number(word("log_len")?)?,
             },
             "why" => Call::Why {
-                entries: entries()?,
+                entries: list(word("entries")?)?,
                 vars: number(word("vars")?)?,
                 literal: number(word("literal")?)?,
                 budget: number(word("budget")?)?,

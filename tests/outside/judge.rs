@@ -28,13 +28,16 @@ struct Buffer {
 /// The parts of `Seen` that a fault can be put into.
 pub fn faults() -> Vec<String> {
     let mut all: Vec<String> = ["answer", "place", "vars", "clauses", "count"].map(|n| format!("read.{n}")).to_vec();
-    all.extend(["answer", "place", "calls", "tries", "forced", "free"].map(|n| format!("run.{n}")));
+    for call in ["run", "setup"] {
+        all.extend(["answer", "place", "calls", "tries", "forced", "free"].map(|n| format!("{call}.{n}")));
+    }
     all.extend(["answer", "place", "calls", "tries"].map(|n| format!("why.{n}")));
     all.push("table.length".to_string());
-    for name in ["read.entries", "run.status", "run.hints", "run.log", "why.marks", "why.values", "table.out"] {
+    for name in ["read.entries", "run.status", "run.hints", "run.log", "setup.values", "why.marks", "why.values", "table.out"] {
         all.extend(["before", "first", "last", "behind"].map(|place| format!("{name}.{place}")));
     }
-    for name in ["read.text", "run.list", "run.models", "why.list", "table.text"] {
+    let lists = ["read.text", "run.list", "run.held", "setup.list", "setup.held", "why.list", "table.text", "table.held"];
+    for name in lists.into_iter().chain(["run.models", "setup.models"]) {
         all.extend(["first", "last"].map(|place| format!("{name}.{place}")));
     }
     all
@@ -148,9 +151,9 @@ fn run(r: &mut Random, g: &Given) -> (Seen, Seen) {
     let hints_before = painted(r, g.hints_len, |x| x as u32);
     let log_before = painted(r, g.log_len, |x| x as u32);
     let (mut status, mut hints, mut log) = (status_before.clone(), hints_before.clone(), log_before.clone());
-    let lent = Box::<[i32]>::from(g.entries);
+    let (lent, held) = (Box::<[i32]>::from(g.entries), Box::<[i32]>::from(g.held));
     let (s, l) = (&mut status[GUARD..GUARD + g.status_len], &mut log[GUARD..GUARD + g.log_len]);
-    let x = raw::run(&lent, g.vars, g.budget, g.chunk_limit, s, &mut hints[GUARD..GUARD + g.hints_len], l);
+    let x = raw::run(&lent, g.vars, &held, g.budget, g.chunk_limit, s, &mut hints[GUARD..GUARD + g.hints_len], l);
     let (mut new_status, mut new_hints, mut new_log) = (Vec::new(), Vec::new(), Vec::new());
     let numbers = match rules::run(g) {
         Err((answer, place)) => [answer as usize, place, 0, 0, 0, 0],
@@ -175,6 +178,7 @@ fn run(r: &mut Random, g: &Given) -> (Seen, Seen) {
     got.buffer("run.log", &log, new_log.len());
     want.buffer("run.log", &written(&log_before, &new_log), new_log.len());
     kept("run.list", g.entries, &lent, &mut got, &mut want);
+    kept("run.held", g.held, &held, &mut got, &mut want);
     if g.vars <= FEW && matches!(x.answer, 0 | 20 | 21) {
         let marked = &status[GUARD..GUARD + g.vars as usize];
         kept("run.models", &models_say(g, x.answer, marked), marked, &mut got, &mut want);
@@ -184,11 +188,46 @@ fn run(r: &mut Random, g: &Given) -> (Seen, Seen) {
 
 /// The statuses that all models allow: those of the definition, but open ones too where the run was stopped.
 fn models_say(g: &Given, answer: u32, marked: &[u8]) -> Vec<u8> {
-    match rules::by_models(g.vars as usize, &rules::clauses_of(g.entries)) {
+    match rules::by_models(g.vars as usize, &rules::with_held(g.entries, g.held)) {
         None => vec![if answer == 0 { 4 } else { 0 }; marked.len()],
         Some(known) if answer == 21 => known.iter().zip(marked).map(|(&k, &m)| if m == 0 { 0 } else { k }).collect(),
         Some(known) => known,
     }
+}
+
+fn setup(r: &mut Random, entries: &[i32], vars: u32, held: &[i32], budget: u32, values_len: usize) -> (Seen, Seen) {
+    let (mut got, mut want) = (Seen::default(), Seen::default());
+    let before = painted(r, values_len, |x| x as u8);
+    let mut values = before.clone();
+    let (lent, lent_held) = (Box::<[i32]>::from(entries), Box::<[i32]>::from(held));
+    let x = raw::setup(&lent, vars, &lent_held, budget, &mut values[GUARD..GUARD + values_len]);
+    let mut new = Vec::new();
+    let numbers = match rules::setup(entries, vars, held, budget, values_len) {
+        Err((answer, place)) => [answer as usize, place, 0, 0, 0, 0],
+        Ok(setup) => {
+            new = setup.values;
+            [setup.answer as usize, 0, 1, setup.tries as usize, 0, 0]
+        }
+    };
+    let names = ["setup.answer", "setup.place", "setup.calls", "setup.tries", "setup.forced", "setup.free"];
+    for ((name, x), n) in names.into_iter().zip([x.answer, x.place, x.calls, x.tries, x.forced, x.free]).zip(numbers) {
+        got.number(name, x);
+        want.number(name, n as i64);
+    }
+    got.buffer("setup.values", &values, new.len());
+    want.buffer("setup.values", &written(&before, &new), new.len());
+    kept("setup.list", entries, &lent, &mut got, &mut want);
+    kept("setup.held", held, &lent_held, &mut got, &mut want);
+    if vars <= FEW && matches!(x.answer, 0 | 20 | 21) {
+        let first = rules::first_model(vars as usize, &rules::with_held(entries, held));
+        let said = match (x.answer, first) {
+            (0, Some(model)) => model,
+            (20, None) | (21, _) => vec![0; vars as usize],
+            _ => vec![2; vars as usize],
+        };
+        kept("setup.models", &said, &values[GUARD..GUARD + vars as usize], &mut got, &mut want);
+    }
+    (got, want)
 }
 
 fn why(r: &mut Random, g: &WhyGiven) -> (Seen, Seen) {
@@ -222,18 +261,19 @@ fn why(r: &mut Random, g: &WhyGiven) -> (Seen, Seen) {
     (got, want)
 }
 
-fn table(r: &mut Random, text: &[u8], room: usize) -> (Seen, Seen) {
+fn table(r: &mut Random, text: &[u8], held: &[i32], room: usize) -> (Seen, Seen) {
     let (mut got, mut want) = (Seen::default(), Seen::default());
     let before = painted(r, room, |x| x as u8);
     let mut out = before.clone();
-    let lent = Box::<[u8]>::from(text);
-    let length = raw::table(&lent, &mut out[GUARD..GUARD + room]);
-    let expected = if room < MAX_TABLE { String::new() } else { rules::table(text) };
+    let (lent, lent_held) = (Box::<[u8]>::from(text), Box::<[i32]>::from(held));
+    let length = raw::table(&lent, &lent_held, &mut out[GUARD..GUARD + room]);
+    let expected = if room < MAX_TABLE { String::new() } else { rules::table(text, held) };
     got.number("table.length", length as i64);
     want.number("table.length", expected.len() as i64);
     got.buffer("table.out", &out, expected.len());
     want.buffer("table.out", &written(&before, expected.as_bytes()), expected.len());
     kept("table.text", text, &lent, &mut got, &mut want);
+    kept("table.held", held, &lent_held, &mut got, &mut want);
     (got, want)
 }
 
@@ -243,13 +283,14 @@ pub fn judge(case: &Case, fault: Option<&str>) -> (i64, Option<String>) {
     let mut r = Random::of_seed(case.paint);
     let (mut got, want) = match &case.call {
         Call::Read { text, room } => read(&mut r, text, *room),
-        &Call::Run { ref entries, vars, budget, chunk_limit, status_len, hints_len, log_len } => {
-            run(&mut r, &Given { entries, vars, budget, chunk_limit, status_len, hints_len, log_len })
+        &Call::Run { ref entries, vars, ref held, budget, chunk_limit, status_len, hints_len, log_len } => {
+            run(&mut r, &Given { entries, vars, held, budget, chunk_limit, status_len, hints_len, log_len })
         }
         &Call::Why { ref entries, vars, literal, budget, marks_len, values_len } => {
             why(&mut r, &WhyGiven { entries, vars, literal, budget, marks_len, values_len })
         }
-        Call::Table { text, room } => table(&mut r, text, *room),
+        &Call::Setup { ref entries, vars, ref held, budget, values_len } => setup(&mut r, entries, vars, held, budget, values_len),
+        Call::Table { text, held, room } => table(&mut r, text, held, *room),
     };
     if let Some(fault) = fault {
         got.put_fault(fault);

@@ -1,8 +1,8 @@
 //! Cases: those at the edges of the rules, always the same, and cases at random.
 
 use crate::case::{Call, MAX_TABLE};
-use crate::rules::{self, Given, MAX_CLAUSES, MAX_ENTRIES, MAX_TEXT, MAX_VARS};
-use crate::texts::{random_text, text_of, with_comments, with_percent, Random};
+use crate::rules::{self, Given, MAX_CLAUSES, MAX_ENTRIES, MAX_HELD, MAX_TEXT, MAX_VARS};
+use crate::texts::{random_held, random_text, some_literals, text_of, with_comments, with_percent, Random};
 use crate::why::{self, WhyGiven};
 
 const LIMITS: [u32; 5] = [1, 2, 3, 16, 256];
@@ -12,8 +12,9 @@ fn log_of(vars: u32) -> usize {
 }
 
 /// A run with exact buffers.
-fn exact(entries: Vec<i32>, vars: u32, budget: u32, chunk_limit: u32) -> Call {
-    Call::Run { entries, vars, budget, chunk_limit, status_len: vars as usize, hints_len: vars as usize, log_len: log_of(vars) }
+fn exact(entries: Vec<i32>, vars: u32, held: Vec<i32>, budget: u32, chunk_limit: u32) -> Call {
+    let (status_len, hints_len, log_len) = (vars as usize, vars as usize, log_of(vars));
+    Call::Run { entries, vars, held, budget, chunk_limit, status_len, hints_len, log_len }
 }
 
 // ---- the edges
@@ -22,7 +23,7 @@ fn exact(entries: Vec<i32>, vars: u32, budget: u32, chunk_limit: u32) -> Call {
 fn in_all_rooms(text: &[u8], calls: &mut Vec<Call>) {
     for (entries, table) in [(0, 0), (1, 1), (4_095, 9_215), (4_096, 9_216), (4_097, 9_217), (5_000, 10_000)] {
         calls.push(Call::Read { text: text.to_vec(), room: entries });
-        calls.push(Call::Table { text: text.to_vec(), room: table });
+        calls.push(Call::Table { text: text.to_vec(), held: Vec::new(), room: table });
     }
 }
 
@@ -79,6 +80,51 @@ fn edge_lists() -> Vec<(Vec<i32>, u32)> {
     lists
 }
 
+/// Lists with literals held: none, some, as many as can be held and one more, both signs, a literal twice, and words that are no literals;
+/// as many clauses or entries as a list may have with as many held behind them; and lists that are refused first.
+fn edge_held() -> Vec<(Vec<i32>, u32, Vec<i32>)> {
+    let either = || vec![1, 2, 0];
+    let ones = |n: usize| vec![1; n];
+    let behind = |n: usize, l: i32| [ones(n), vec![l]].concat();
+    let all: Vec<i32> = (1..=MAX_VARS as i32).map(|v| if v % 3 == 0 { -v } else { v }).collect();
+    let others: Vec<i32> = all.iter().map(|l| -l).collect();
+    let clauses: Vec<i32> = (0..MAX_CLAUSES as i32).flat_map(|i| [i % 256 + 1, -((i + 1) % 256 + 1), (i + 7) % 256 + 1, 0]).collect();
+    let zeros = |n: usize| vec![0; n];
+    let mut cases = vec![
+        (vec![], 0, vec![]), (vec![], 0, vec![0]), (vec![], 0, vec![1]), (vec![0], 0, vec![]), (vec![], 1, vec![-1]), (vec![1, 0], 1, vec![1]),
+        (vec![1, 0], 1, vec![-1]), (vec![], 256, all.clone()), (vec![], 256, others.clone()), (clauses.clone(), 256, all.clone()),
+        (clauses.clone(), 256, others), (clauses.clone(), 256, vec![256; MAX_HELD]), (clauses, 256, all[..255].to_vec()),
+        ([ones(MAX_ENTRIES - 1), vec![0]].concat(), 1, ones(MAX_HELD)), ([ones(MAX_ENTRIES - 1), vec![0]].concat(), 2, behind(255, 2)),
+        (zeros(MAX_CLAUSES), 1, ones(MAX_HELD)), (zeros(MAX_CLAUSES + 1), 1, ones(MAX_HELD)), (zeros(MAX_CLAUSES + 1), 1, vec![0]),
+        (vec![1], 1, vec![0]), (vec![1], 1, ones(MAX_HELD + 1)), (vec![3, 0], 2, vec![0]), (vec![3, 0], 2, ones(MAX_HELD + 1)),
+        (ones(MAX_ENTRIES + 1), 1, vec![2]), (vec![1, 0], 257, vec![0]), (vec![1, 0], u32::MAX, ones(MAX_HELD + 1)),
+    ];
+    for held in [
+        vec![], vec![1], vec![-1], vec![1, 1], vec![1, -1], vec![-1, 2, 1], vec![-1, -2], vec![0], vec![3], vec![-3], vec![i32::MIN],
+        vec![i32::MAX], vec![2, 0, 3], vec![2, 3, 0], ones(MAX_HELD), behind(MAX_HELD - 1, -1), behind(MAX_HELD - 1, 0),
+        behind(MAX_HELD - 1, i32::MIN), ones(MAX_HELD + 1), behind(MAX_HELD, 0), zeros(MAX_HELD), zeros(MAX_HELD + 1), ones(1_000),
+    ] {
+        cases.push((either(), 2, held));
+    }
+    cases
+}
+
+/// A run, a setup and a table with these literals held.
+fn in_all_calls(entries: &[i32], vars: u32, held: &[i32], calls: &mut Vec<Call>) {
+    let (vs, log) = (vars.min(300) as usize, log_of(vars.min(300)));
+    for (len, log_len) in [(vs, log), (vs + 3, log + 7), (vs.max(1) - 1, log), (0, 0)] {
+        for (budget, chunk_limit) in [(100, 2), (0, 1), (u32::MAX, 256), (100, 0)] {
+            let (entries, held) = (entries.to_vec(), held.to_vec());
+            let setup = Call::Setup { entries: entries.clone(), vars, held: held.clone(), budget, values_len: len };
+            calls.push(Call::Run { entries, vars, held, budget, chunk_limit, status_len: len, hints_len: len, log_len });
+            calls.push(setup);
+        }
+    }
+    let clauses: Vec<Vec<i32>> = rules::clauses_of(entries).into_iter().map(|c| c.into_iter().collect()).collect();
+    let text = text_of(vars.min(300) as i32, &clauses).into_bytes();
+    calls.push(Call::Table { text, held: held.to_vec(), room: MAX_TABLE });
+}
+
 /// A question with exact buffers.
 fn exact_why(entries: Vec<i32>, vars: u32, literal: i32, budget: u32) -> Call {
     Call::Why { entries, vars, literal, budget, marks_len: MAX_CLAUSES, values_len: vars as usize }
@@ -103,6 +149,9 @@ pub fn edges() -> Vec<Call> {
     for text in edge_texts() {
         in_all_rooms(&text, &mut calls);
     }
+    for (entries, vars, held) in edge_held() {
+        in_all_calls(&entries, vars, &held, &mut calls);
+    }
     for (list, vars) in edge_lists() {
         edge_whys(&list, vars, &mut calls);
         // the longest buffers that a run could ask for, and a little more, where the variables are too many
@@ -111,7 +160,8 @@ pub fn edges() -> Vec<Call> {
         let lengths = [(vs, vs, log), (vs + 3, vs + 5, log + 7), (less, vs, log), (vs, less, log), (vs, vs, log - 1), (0, 0, 0)];
         for (status_len, hints_len, log_len) in lengths {
             for (budget, chunk_limit) in [(100, 2), (0, 1), (u32::MAX, 256), (100, 0), (100, 257), (100, u32::MAX)] {
-                calls.push(Call::Run { entries: list.clone(), vars, budget, chunk_limit, status_len, hints_len, log_len });
+                let (entries, held) = (list.clone(), Vec::new());
+                calls.push(Call::Run { entries, vars, held, budget, chunk_limit, status_len, hints_len, log_len });
             }
         }
     }
@@ -154,17 +204,30 @@ fn random_list(r: &mut Random, vars: u32, clauses: u64) -> Vec<i32> {
     list
 }
 
-/// A small formula with every budget from none to more than enough, for every chunk limit of the list.
+/// None, or a few literals to hold.
+fn few_held(r: &mut Random, vars: u32) -> Vec<i32> {
+    let count = r.below(2) * r.below(5);
+    some_literals(r, vars, count)
+}
+
+/// A small formula with every budget from none to more than enough, for every chunk limit of the list, and its valid setup.
 fn every_budget(r: &mut Random, calls: &mut Vec<Call>) {
     let vars = r.below(11) as u32;
     let clauses = r.below(4 * u64::from(vars) + 3);
     let entries = random_list(r, vars, clauses);
+    let held = few_held(r, vars);
+    let needed = rules::setup(&entries, vars, &held, u32::MAX, vars as usize).expect("the list keeps the rules").tries as u32;
+    for budget in (0..=needed + 1).chain([u32::MAX]) {
+        let mut values_len = vars as usize;
+        stretch(r, &mut values_len);
+        calls.push(Call::Setup { entries: entries.clone(), vars, held: held.clone(), budget, values_len });
+    }
     for chunk_limit in LIMITS {
         let (status_len, hints_len, log_len) = (vars as usize, vars as usize, log_of(vars));
-        let given = Given { entries: &entries, vars, budget: u32::MAX, chunk_limit, status_len, hints_len, log_len };
+        let given = Given { entries: &entries, vars, held: &held, budget: u32::MAX, chunk_limit, status_len, hints_len, log_len };
         let needed = rules::run(&given).expect("the list keeps the rules").tries as u32;
         for budget in (0..=needed + 1).chain([u32::MAX]) {
-            let mut call = exact(entries.clone(), vars, budget, chunk_limit);
+            let mut call = exact(entries.clone(), vars, held.clone(), budget, chunk_limit);
             if let Call::Run { status_len, hints_len, log_len, .. } = &mut call {
                 stretch(r, status_len);
                 stretch(r, hints_len);
@@ -251,18 +314,27 @@ fn large(r: &mut Random) -> Call {
         entries[MAX_ENTRIES - 1] = 0;
     }
     let most = one_of(r, &[100, 1_000, 5_000]);
-    exact(entries, vars, r.below(most) as u32, one_of(r, &LIMITS))
+    let held = few_held(r, vars);
+    exact(entries, vars, held, r.below(most) as u32, one_of(r, &LIMITS))
 }
 
-/// A run with one to three things changed so that it may be refused.
+/// A run, or a setup, with one to three things changed so that it may be refused.
 fn refused(r: &mut Random) -> Call {
     let vars = if r.below(4) == 0 { r.below(257) as u32 } else { r.below(6) as u32 };
     let clauses = r.below(8);
     let list = random_list(r, vars, clauses);
-    let mut call = exact(list, vars, r.below(50) as u32, one_of(r, &LIMITS));
+    let held = few_held(r, vars);
+    let mut call = exact(list, vars, held, r.below(50) as u32, one_of(r, &LIMITS));
     for _ in 0..=r.below(3) {
-        let Call::Run { entries, vars, chunk_limit, status_len, hints_len, log_len, .. } = &mut call else { unreachable!("it is a run") };
-        match r.below(17) {
+        let Call::Run { entries, vars, held, chunk_limit, status_len, hints_len, log_len, .. } = &mut call else { unreachable!("it is a run") };
+        match r.below(22) {
+            20 | 21 => {
+                let above = (*vars).min(300) as i32 + 1;
+                let bad = one_of(r, &[0, above, -above, i32::MIN, i32::MAX]);
+                held.insert(r.below(held.len() as u64 + 1) as usize, bad);
+            }
+            19 => held.resize(MAX_HELD - 1 + r.below(4) as usize, 1),
+            17 | 18 => *held = random_held(r, (*vars).min(300)),
             16 => *hints_len = r.below(*hints_len as u64 + 1) as usize,
             0 => *vars = one_of(r, &[257, 258, 1 << 16, 1 << 31, u32::MAX]),
             1 => *chunk_limit = one_of(r, &[0, 257, 1 << 16, u32::MAX]),
@@ -290,7 +362,12 @@ fn refused(r: &mut Random) -> Call {
             }
         }
     }
-    call
+    match call {
+        Call::Run { entries, vars, held, budget, status_len, .. } if r.below(4) == 0 => {
+            Call::Setup { entries, vars, held, budget, values_len: status_len }
+        }
+        run => run,
+    }
 }
 
 /// A list written as a text in some of the ways that the rules allow; now and then with a header that is one off.
@@ -382,8 +459,10 @@ fn some_text(r: &mut Random, calls: &mut Vec<Call>) {
     let (mut room, mut table) = (MAX_ENTRIES, MAX_TABLE);
     stretch(r, &mut room);
     stretch(r, &mut table);
+    let vars = rules::read(&text).map_or(3, |f| f.vars as u32);
+    let held = if r.below(2) == 0 { Vec::new() } else { random_held(r, vars) };
     calls.push(Call::Read { text: text.clone(), room });
-    calls.push(Call::Table { text, room: table });
+    calls.push(Call::Table { text, held, room: table });
 }
 
 /// The calls of one case at random.

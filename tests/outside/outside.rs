@@ -30,9 +30,10 @@ use judge::judge;
 use texts::Random;
 
 /// The answers that must have been given at least once.
-const ANSWERS: [(&str, &[i64]); 3] = [
+const ANSWERS: [(&str, &[i64]); 4] = [
     ("read", &[0, 1, 2, 3, 4, 5, 6, 7, 8, 9]),
-    ("run", &[0, 1, 10, 11, 12, 20, 21]),
+    ("run", &[0, 1, 10, 11, 12, 13, 15, 20, 21]),
+    ("setup", &[0, 1, 10, 11, 12, 13, 15, 20, 21]),
     ("why", &[0, 1, 10, 11, 12, 13, 20, 21, 22]),
 ];
 
@@ -71,7 +72,7 @@ impl Judged<'_> {
 
     /// Prints how often each answer was given; false if one is missing.
     fn is_whole(&self) -> bool {
-        for call in ["read", "run", "why"] {
+        for (call, _) in ANSWERS {
             let line: Vec<String> = self.given.iter().filter(|(k, _)| k.0 == call).map(|(k, n)| format!("{} {n} times", k.1)).collect();
             println!("{call} answered {}", line.join(", "));
         }

@@ -22,37 +22,58 @@ fn clauses_of(entries: &[i32]) -> Vec<Vec<i32>> {
     entries.split_inclusive(|&e| e == 0).map(<[i32]>::to_vec).collect()
 }
 
-/// The formula with fewer clauses, and with its variables numbered without gaps.
-fn formulas(vars: u32, entries: &[i32]) -> Vec<(u32, Vec<i32>)> {
-    let mut used: Vec<u32> = entries.iter().map(|e| e.unsigned_abs()).filter(|&v| v > 0).collect();
+/// Variables, a list, and the literals held.
+type Held = (u32, Vec<i32>, Vec<i32>);
+
+/// The formula with fewer clauses, with fewer literals held, and with its variables numbered without gaps.
+fn formulas(vars: u32, entries: &[i32], held: &[i32]) -> Vec<Held> {
+    let mut used: Vec<u32> = entries.iter().chain(held).map(|e| e.unsigned_abs()).filter(|&v| v > 0).collect();
     used.sort_unstable();
     used.dedup();
-    let mut all: Vec<(u32, Vec<i32>)> = cuts(&clauses_of(entries)).into_iter().map(|cs| (vars, cs.concat())).collect();
+    let mut all: Vec<Held> = cuts(&clauses_of(entries)).into_iter().map(|cs| (vars, cs.concat(), held.to_vec())).collect();
+    all.extend(cuts(held).into_iter().map(|fewer| (vars, entries.to_vec(), fewer)));
     if used.len() < vars as usize {
         let number = |e: &i32| e.signum() * (1 + used.partition_point(|&v| v < e.unsigned_abs()) as i32);
-        all.push((used.len() as u32, entries.iter().map(number).collect()));
+        all.push((used.len() as u32, entries.iter().map(number).collect(), held.iter().map(number).collect()));
     }
     all
 }
 
-fn smaller_texts(text: &[u8]) -> Vec<Vec<u8>> {
+/// The same with a variable less, or with single entries cut out.
+fn lists(vars: u32, entries: &[i32], held: &[i32]) -> Vec<Held> {
+    let mut all = formulas(vars, entries, held);
+    all.extend((vars > 0).then(|| (vars - 1, entries.to_vec(), held.to_vec())));
+    all.extend(cuts(entries).into_iter().map(|list| (vars, list, held.to_vec())));
+    all
+}
+
+/// Budgets that are smaller.
+fn budgets(budget: u32) -> impl Iterator<Item = u32> {
+    [0, budget / 2, budget.saturating_sub(1)].into_iter().filter(move |&b| b < budget)
+}
+
+fn smaller_texts(text: &[u8], held: &[i32]) -> Vec<(Vec<u8>, Vec<i32>)> {
     let mut all = Vec::new();
     if let Ok(f) = rules::read(text) {
-        for (vars, list) in formulas(f.vars as u32, &f.entries) {
+        for (vars, list, fewer) in formulas(f.vars as u32, &f.entries, held) {
             let clauses: Vec<Vec<i32>> = clauses_of(&list).into_iter().map(|c| c[..c.len() - 1].to_vec()).collect();
-            all.push(text_of(vars as i32, &clauses).into_bytes());
+            all.push((text_of(vars as i32, &clauses).into_bytes(), fewer));
         }
     }
-    all.extend(cuts(text));
-    all.retain(|other| other.len() < text.len());
+    all.extend(cuts(text).into_iter().map(|less| (less, held.to_vec())));
+    all.extend(cuts(held).into_iter().map(|fewer| (text.to_vec(), fewer)));
+    let size = |text: &[u8], held: &[i32]| text.len() + held.len();
+    all.retain(|(less, fewer)| size(less, fewer) < size(text, held));
     all
 }
 
 /// Calls that are a step smaller.
 fn smaller(call: &Call) -> Vec<Call> {
     match call {
-        Call::Read { text, room } => smaller_texts(text).into_iter().map(|text| Call::Read { text, room: *room }).collect(),
-        Call::Table { text, room } => smaller_texts(text).into_iter().map(|text| Call::Table { text, room: *room }).collect(),
+        Call::Read { text, room } => smaller_texts(text, &[]).into_iter().map(|(text, _)| Call::Read { text, room: *room }).collect(),
+        Call::Table { text, held, room } => {
+            smaller_texts(text, held).into_iter().map(|(text, held)| Call::Table { text, held, room: *room }).collect()
+        }
         Call::Why { entries, vars, literal, budget, marks_len, values_len } => {
             let (vars, literal, budget, marks_len, values_len) = (*vars, *literal, *budget, *marks_len, *values_len);
             // the literal stays, and so do the variables
@@ -64,23 +85,29 @@ fn smaller(call: &Call) -> Vec<Call> {
             all.extend(cuts(entries).into_iter().map(|list| with(list, budget)));
             all
         }
-        Call::Run { entries, vars, budget, chunk_limit, status_len, hints_len, log_len } => {
+        // with fewer variables the buffers have as much room behind as before
+        Call::Run { entries, vars, held, budget, chunk_limit, status_len, hints_len, log_len } => {
             let (vars, budget, chunk_limit) = (*vars, *budget, *chunk_limit);
-            // with fewer variables the buffers have as much room behind as before
-            let with = |entries: Vec<i32>, fewer: u32, budget, chunk_limit| {
+            let with = |(fewer, entries, held): Held, budget, chunk_limit| {
                 let less = (vars - fewer) as usize;
                 let (status_len, hints_len) = (status_len.saturating_sub(less), hints_len.saturating_sub(less));
                 let log_len = log_len.saturating_sub(6 * less);
-                Call::Run { entries, vars: fewer, budget, chunk_limit, status_len, hints_len, log_len }
+                Call::Run { entries, vars: fewer, held, budget, chunk_limit, status_len, hints_len, log_len }
             };
-            let mut all: Vec<Call> = Vec::new();
-            all.extend(formulas(vars, entries).into_iter().map(|(fewer, list)| with(list, fewer, budget, chunk_limit)));
-            all.extend((vars > 0).then(|| with(entries.clone(), vars - 1, budget, chunk_limit)));
-            for fewer in [0, budget / 2, budget.saturating_sub(1)].into_iter().filter(|&b| b < budget) {
-                all.push(with(entries.clone(), vars, fewer, chunk_limit));
-            }
-            all.extend((chunk_limit > 1).then(|| with(entries.clone(), vars, budget, chunk_limit / 2)));
-            all.extend(cuts(entries).into_iter().map(|list| with(list, vars, budget, chunk_limit)));
+            let same = || (vars, entries.clone(), held.clone());
+            let mut all: Vec<Call> = lists(vars, entries, held).into_iter().map(|less| with(less, budget, chunk_limit)).collect();
+            all.extend(budgets(budget).map(|less| with(same(), less, chunk_limit)));
+            all.extend((chunk_limit > 1).then(|| with(same(), budget, chunk_limit / 2)));
+            all
+        }
+        Call::Setup { entries, vars, held, budget, values_len } => {
+            let (vars, budget) = (*vars, *budget);
+            let with = |(fewer, entries, held): Held, budget| {
+                let values_len = values_len.saturating_sub((vars - fewer) as usize);
+                Call::Setup { entries, vars: fewer, held, budget, values_len }
+            };
+            let mut all: Vec<Call> = lists(vars, entries, held).into_iter().map(|less| with(less, budget)).collect();
+            all.extend(budgets(budget).map(|less| with((vars, entries.clone(), held.clone()), less)));
             all
         }
     }

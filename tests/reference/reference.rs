@@ -6,13 +6,16 @@
 //!   reference --solver SOLVER FILE...    SOLVER (which ends with 10 or 20, as picosat does) must find the same forced and free
 //!   reference --against PROGRAM FILE...  PROGRAM must print the same for each file, and what all models say where there are at
 //!                                        most 20 variables
-//!   reference --random PROGRAM SEED N    the same for N texts made from SEED: formulas, and texts with a byte or two changed
+//!   reference --random PROGRAM SEED N    the same for N texts made from SEED: formulas, and texts with a byte or two changed; for every
+//!                                        other one PROGRAM is given literals to hold
 //!   reference --why PROGRAM FILE...      PROGRAM, started with a literal, must print why it is forced as `why.rs` does, for some literals of
 //!                                        each file; what is kept is tried with all assignments where there are at most 10 variables
 //!   reference --why-random PROGRAM SEED N     the same for N texts made from SEED
 //!   reference --why-solver SOLVER SEED N      for N formulas made from SEED: SOLVER must find that what is kept forces, and without one
 //!                                             does not
 
+// one valid setup is compared by tests/outside
+#[allow(dead_code)]
 mod rules;
 mod texts;
 mod why;
@@ -23,9 +26,12 @@ use std::fs;
 use std::io::Write as _;
 use std::process::{Command, ExitCode, Stdio};
 
-use rules::{by_models, clauses_of, read, run_of, status_lines, table, Formula};
-use texts::{random_text, text_of, Random};
+use rules::{by_models, clauses_of, read, run_of, status_lines, table, with_held, Formula};
+use texts::{random_held, random_text, text_of, Random};
 use why::{fault_of_kept, forces, WhyGiven};
+
+/// A name, a text, and the literals held.
+type Text = (String, Vec<u8>, Vec<i32>);
 
 // ---- against the program
 
@@ -36,23 +42,22 @@ fn printed(program: &str, words: &[String], text: &[u8]) -> std::io::Result<Vec<
     Ok(child.wait_with_output()?.stdout)
 }
 
-/// What is wrong with the program's table for a text, if anything.
-fn difference(program: &str, text: &[u8]) -> Option<String> {
-    let got = match printed(program, &[], text) {
+/// What is wrong with the program's table for a text with literals held, if anything.
+fn difference(program: &str, text: &[u8], held: &[i32]) -> Option<String> {
+    let words: Vec<String> = held.iter().map(i32::to_string).collect();
+    let got = match printed(program, &words, text) {
         Err(e) => return Some(format!("{program}: {e}")),
         Ok(bytes) => String::from_utf8_lossy(&bytes).into_owned(),
     };
-    let expected = table(text);
+    let expected = table(text, held);
     if got != expected {
         return Some(format!("expected\n{expected}but it printed\n{got}"));
     }
-    if let Ok(f) = read(text) {
-        if f.vars <= 20 {
-            let hints = run_of(&f).hints;
-            let lines = by_models(f.vars, &clauses_of(&f.entries)).map_or(String::new(), |status| status_lines(&status, &hints));
-            if !got.starts_with("answer 21 ") && !got.ends_with(&format!("\n{lines}")) {
-                return Some(format!("all models say\n{lines}but it printed\n{got}"));
-            }
+    let (f, r) = read(text).and_then(|f| run_of(&f, held).map(|r| (f, r))).ok()?;
+    if f.vars <= 20 {
+        let lines = by_models(f.vars, &with_held(&f.entries, held)).map_or(String::new(), |status| status_lines(&status, &r.hints));
+        if r.answer != 21 && !got.ends_with(&format!("\n{lines}")) {
+            return Some(format!("all models say\n{lines}but it printed\n{got}"));
         }
     }
     None
@@ -83,8 +88,7 @@ fn is_satisfiable(solver: &str, f: &Formula, unit: i32) -> std::io::Result<bool>
 
 /// Where the solver and the run do not agree on a text that is accepted and not stopped.
 fn solver_difference(solver: &str, text: &[u8]) -> std::io::Result<Option<String>> {
-    let Ok(f) = read(text) else { return Ok(None) };
-    let r = run_of(&f);
+    let Ok((f, r)) = read(text).and_then(|f| run_of(&f, &[]).map(|r| (f, r))) else { return Ok(None) };
     if r.answer == 21 {
         return Ok(None);
     }
@@ -107,9 +111,9 @@ fn solver_difference(solver: &str, text: &[u8]) -> std::io::Result<Option<String
     Ok(None)
 }
 
-fn against_solver(solver: &str, texts: &[(String, Vec<u8>)]) -> std::io::Result<ExitCode> {
+fn against_solver(solver: &str, texts: &[Text]) -> std::io::Result<ExitCode> {
     let mut wrong = 0;
-    for (name, text) in texts {
+    for (name, text, _) in texts {
         if let Some(what) = solver_difference(solver, text)? {
             println!("{name}: {solver} says otherwise of {what}");
             wrong += 1;
@@ -174,7 +178,7 @@ fn why_difference(program: &str, text: &[u8], literal: i32) -> Option<String> {
 /// Literals to ask about: those that the run finds forced, up to three, the other sign of the last, a free one, 0 and one above V.
 fn literals_of(text: &[u8]) -> Vec<i32> {
     let Ok(f) = read(text) else { return vec![1] };
-    let r = run_of(&f);
+    let r = run_of(&f, &[]).expect("no rule refuses what was read");
     let signed = (1..).zip(&r.status).filter_map(|(v, &s): (i32, _)| match s {
         2 => Some(v),
         3 => Some(-v),
@@ -187,9 +191,9 @@ fn literals_of(text: &[u8]) -> Vec<i32> {
     literals
 }
 
-fn why_against(program: &str, texts: &[(String, Vec<u8>)]) -> ExitCode {
+fn why_against(program: &str, texts: &[Text]) -> ExitCode {
     let (mut asked, mut wrong) = (0, 0);
-    for (name, text) in texts {
+    for (name, text, _) in texts {
         for literal in literals_of(text) {
             asked += 1;
             if let Some(what) = why_difference(program, text, literal) {
@@ -316,15 +320,17 @@ fn families(folder: &str) -> std::io::Result<ExitCode> {
     }
     Ok(ExitCode::SUCCESS)
 }
+
 // ---- texts at random
-fn files_of(names: &[String]) -> std::io::Result<Vec<(String, Vec<u8>)>> {
-    names.iter().map(|n| Ok((n.clone(), fs::read(n)?))).collect()
+
+fn files_of(names: &[String]) -> std::io::Result<Vec<Text>> {
+    names.iter().map(|n| Ok((n.clone(), fs::read(n)?, Vec::new()))).collect()
 }
 
-fn against(program: &str, texts: &[(String, Vec<u8>)]) -> ExitCode {
+fn against(program: &str, texts: &[Text]) -> ExitCode {
     let mut wrong = 0;
-    for (name, text) in texts {
-        if let Some(what) = difference(program, text) {
+    for (name, text, held) in texts {
+        if let Some(what) = difference(program, text, held) {
             println!("{name}: {what}");
             wrong += 1;
         }
@@ -352,7 +358,11 @@ fn main() -> ExitCode {
             let texts: Vec<_> = (0..n)
                 .map(|i| {
                     let text = random_text(&mut r);
-                    (format!("text {i}, {:?}", String::from_utf8_lossy(&text)), text)
+                    let vars = read(&text).map_or(3, |f| f.vars);
+                    let held = if r.below(2) == 0 { Vec::new() } else { random_held(&mut r, vars as u32) };
+                    // a word of more digits is no number
+                    let held: Vec<i32> = held.into_iter().map(|l| l.clamp(-999_999_999, 999_999_999)).collect();
+                    (format!("text {i}, {:?} with {held:?}", String::from_utf8_lossy(&text)), text, held)
                 })
                 .collect();
             return if word == "--random" { against(program, &texts) } else { why_against(program, &texts) };
@@ -362,14 +372,14 @@ fn main() -> ExitCode {
         ["--solver", solver, ..] => files_of(&args[2..]).and_then(|texts| against_solver(solver, &texts)),
         ["--families", folder] => families(folder),
         ["--named", ..] => files_of(&args[1..]).map(|texts| {
-            for (name, text) in texts {
-                print!("{}\n{}", name.rsplit('/').next().unwrap_or(&name), table(&text));
+            for (name, text, held) in texts {
+                print!("{}\n{}", name.rsplit('/').next().unwrap_or(&name), table(&text, &held));
             }
             ExitCode::SUCCESS
         }),
         _ => files_of(&args).map(|texts| {
-            for (_, text) in texts {
-                print!("{}", table(&text));
+            for (_, text, held) in texts {
+                print!("{}", table(&text, &held));
             }
             ExitCode::SUCCESS
         }),

@@ -1,5 +1,5 @@
 //! The rules in plain Rust, written from the page alone and sharing no code with the crates: text to entries, the search, the run with
-//! what it refuses, the printed table, and forced and free from all models. `reference.rs` beside it and `tests/outside` use it.
+//! what it refuses, one valid setup, the printed table, and forced and free from all models. `reference.rs` beside it and `tests/outside` use it.
 
 use std::collections::BTreeSet;
 use std::fmt::Write as _;
@@ -8,6 +8,7 @@ pub const MAX_TEXT: usize = 32_768;
 pub const MAX_VARS: usize = 256;
 pub const MAX_CLAUSES: usize = 1_024;
 pub const MAX_ENTRIES: usize = 4_096;
+pub const MAX_HELD: usize = 256;
 
 /// A refusal: its number and its place.
 pub type Refusal = (u32, usize);
@@ -151,6 +152,13 @@ pub fn clauses_of(entries: &[i32]) -> Vec<Clause> {
     all
 }
 
+/// The formula with the held literals: a clause of one literal for each of them, behind the clauses of the list.
+pub fn with_held(entries: &[i32], held: &[i32]) -> Vec<Clause> {
+    let mut all = clauses_of(entries);
+    all.extend(held.iter().map(|&l| Clause::from([l])));
+    all
+}
+
 fn value(values: &Values, l: i32) -> Option<bool> {
     values[l.unsigned_abs() as usize - 1].map(|v| v == (l > 0))
 }
@@ -218,6 +226,7 @@ pub fn go_on(clauses: &[Clause], mut values: Values, meter: &mut Meter) -> End {
 pub struct Given<'a> {
     pub entries: &'a [i32],
     pub vars: u32,
+    pub held: &'a [i32],
     pub budget: u32,
     pub chunk_limit: u32,
     pub status_len: usize,
@@ -244,16 +253,21 @@ impl Report {
     }
 }
 
-/// Why a run is refused, if it is.
-fn refusal(g: &Given) -> Option<Refusal> {
-    let (es, vars) = (g.entries, g.vars as usize);
-    if vars > MAX_VARS || g.chunk_limit == 0 || g.chunk_limit as usize > MAX_VARS {
+/// Why a list with literals held is refused, if it is, with limits that may be bad and buffers that may be short.
+fn refusal(bad_limits: bool, short: bool, es: &[i32], vars: u32, held: &[i32]) -> Option<Refusal> {
+    if bad_limits {
         return Some((10, 0));
     }
-    if g.status_len < vars || g.hints_len < vars || g.log_len < 6 * (vars + 1) {
+    if short {
         return Some((1, 0));
     }
-    list_refusal(es, g.vars)
+    if let Some(refusal) = list_refusal(es, vars) {
+        return Some(refusal);
+    }
+    if held.len() > MAX_HELD {
+        return Some((15, MAX_HELD));
+    }
+    held.iter().position(|&l| l == 0 || l.unsigned_abs() > vars).map(|i| (13, i))
 }
 
 /// Why a list is refused, if it is.
@@ -288,12 +302,14 @@ fn hint(clauses: &[Clause], model: &[bool], variable: usize) -> u32 {
 
 /// The run; an error where it is refused.
 pub fn run(g: &Given) -> Result<Report, Refusal> {
-    if let Some(refusal) = refusal(g) {
-        return Err(refusal);
-    }
     let vars = g.vars as usize;
     let limit = g.chunk_limit as usize;
-    let clauses = clauses_of(g.entries);
+    let bad_limits = vars > MAX_VARS || limit == 0 || limit > MAX_VARS;
+    let short = g.status_len < vars || g.hints_len < vars || g.log_len < 6 * (vars + 1);
+    if let Some(refusal) = refusal(bad_limits, short, g.entries, g.vars, g.held) {
+        return Err(refusal);
+    }
+    let clauses = with_held(g.entries, g.held);
     let mut meter = Meter { budget: g.budget.into(), spent: 0 };
     let mut r = Report { status: vec![0; vars], hints: vec![0; vars], ..Report::default() };
     let mut first: Vec<bool> = Vec::new();
@@ -363,11 +379,33 @@ pub fn run(g: &Given) -> Result<Report, Refusal> {
 }
 
 /// The run that the table is made of.
-pub fn run_of(f: &Formula) -> Report {
+pub fn run_of(f: &Formula, held: &[i32]) -> Result<Report, Refusal> {
     let vars = f.vars as u32;
     let log_len = 6 * (f.vars + 1);
-    run(&Given { entries: &f.entries, vars, budget: 1_000_000, chunk_limit: 16, status_len: f.vars, hints_len: f.vars, log_len })
-        .expect("the run of an accepted text is not refused")
+    run(&Given { entries: &f.entries, vars, held, budget: 1_000_000, chunk_limit: 16, status_len: f.vars, hints_len: f.vars, log_len })
+}
+
+// ---- one valid setup
+
+pub struct Setup {
+    pub answer: u32,
+    pub tries: u64,
+    pub values: Vec<u8>,
+}
+
+/// The first call alone: its model as a byte a variable, zeros where there is none or it was stopped; an error where it is refused.
+pub fn setup(entries: &[i32], vars: u32, held: &[i32], budget: u32, values_len: usize) -> Result<Setup, Refusal> {
+    let size = vars as usize;
+    if let Some(refusal) = refusal(size > MAX_VARS, values_len < size, entries, vars, held) {
+        return Err(refusal);
+    }
+    let mut meter = Meter { budget: budget.into(), spent: 0 };
+    let (answer, values) = match go_on(&with_held(entries, held), vec![None; size], &mut meter) {
+        End::Model(model) => (0, model.iter().map(|&on| u8::from(on)).collect()),
+        End::None => (20, vec![0; size]),
+        End::Stopped => (21, vec![0; size]),
+    };
+    Ok(Setup { answer, tries: meter.spent, values })
 }
 
 // ---- the table
@@ -383,12 +421,11 @@ pub fn status_lines(status: &[u8], hints: &[u32]) -> String {
     out
 }
 
-pub fn table(text: &[u8]) -> String {
-    let f = match read(text) {
+pub fn table(text: &[u8], held: &[i32]) -> String {
+    let (f, r) = match read(text).and_then(|f| run_of(&f, held).map(|r| (f, r))) {
         Err((number, place)) => return format!("refused {number} place {place}\n"),
-        Ok(f) => f,
+        Ok(both) => both,
     };
-    let r = run_of(&f);
     let (calls, forced, free) = (r.log.len(), r.forced(), r.free());
     let open = f.vars - forced - free;
     let first = format!("answer {} calls {calls} tries {} forced {forced} free {free} open {open}\n", r.answer, r.tries);
@@ -414,4 +451,11 @@ pub fn by_models(vars: usize, clauses: &[Clause]) -> Option<Vec<u8>> {
         _ => 3,
     };
     (models > 0).then(|| (0..vars).map(status).collect())
+}
+
+/// The first of all models, a byte a variable, if there is one: variable 1 counts the most, and off is before on.
+pub fn first_model(vars: usize, clauses: &[Clause]) -> Option<Vec<u8>> {
+    let all = (0..1u32 << vars).map(|bits| (1..=vars).map(|v| bits >> (vars - v) & 1 == 1).collect::<Vec<bool>>());
+    let mut all = all.filter(|model| holds(clauses, model));
+    all.next().map(|model| model.into_iter().map(u8::from).collect())
 }

@@ -1,4 +1,4 @@
-//! Texts that tests make: a formula written plainly, and texts at random.
+//! Texts that tests make: a formula written plainly, and texts and lists of held literals at random.
 
 use std::fmt::Write as _;
 
@@ -108,4 +108,30 @@ pub fn random_text(r: &mut Random) -> Vec<u8> {
         }
     }
     text
+}
+
+/// So many literals, some of them twice or with both signs; none if there are no variables.
+pub fn some_literals(r: &mut Random, vars: u32, count: u64) -> Vec<i32> {
+    let mut literals = Vec::new();
+    for _ in 0..if vars == 0 { 0 } else { count } {
+        let v = 1 + r.below(vars.into()) as i32;
+        literals.push(if r.below(2) == 0 { v } else { -v });
+    }
+    literals
+}
+
+/// Literals to hold: a few or many, and now and then one that is none or too many of them.
+pub fn random_held(r: &mut Random, vars: u32) -> Vec<i32> {
+    let count = match r.below(32) {
+        0 => 250 + r.below(10),
+        1 => r.below(2 * u64::from(vars) + 1),
+        _ => 1 + r.below(4),
+    };
+    let mut held = some_literals(r, vars, count);
+    if r.below(16) == 0 {
+        let above = vars.min(300) as i32 + 1;
+        let bad = [0, above, -above, i32::MIN, i32::MAX, 257][r.below(6) as usize];
+        held.insert(r.below(held.len() as u64 + 1) as usize, bad);
+    }
+    held
 }

@@ -30,5 +30,5 @@ cleared status log n e s l =
       log-is = l ∙ ap (λ (n : ℕ). replicate n 0) (n ∙ ap logLength (sym e));
     }
 
-pub front-len : (n : ℕ) (xs : List ℕ) → n ≤ length xs → n ≡ length (take n xs)
+pub front-len : {A : Type 0} (n : ℕ) (xs : List A) → n ≤ length xs → n ≡ length (take n xs)
 front-len n xs h = sym (length-take-le n xs h)

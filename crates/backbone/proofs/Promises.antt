@@ -11,12 +11,15 @@
 --   calls-most, tries-most, counted, logged     calls, tries, counts and the log
 --   rest-stays        what stands behind the table and the rows
 --   one-answer        no second result and buffers
+--   held-more, held-free     of two runs where the second holds more: what is forced stays so, and a free variable may be held
+--   held-signs        both signs of a variable held
+--   as-before         with no held literal, everything is as it was without such a list
 --
 -- Assumes nothing.
 use mathlib.Core.Path.{_≡_, refl, sym, _∙_, ap}
 use mathlib.Core.Logic.{_≢_, _↔_}
 use mathlib.Core.Bool.{Bool, true, false}
-use mathlib.Core.List.{List}
+use mathlib.Core.List.{List, [], _∷_, _++_}
 use mathlib.Core.Option.{Option, none, some}
 use Prim.Native.Nat.{ℕ, _+_, _≤_, _<_}
 use lib.IntN.{ℤ}
@@ -24,14 +27,16 @@ use lib.ListN.{length, getD, take, drop, replicate}
 use Rattle.rules.specs.declared.Refusal.{Refusal}
 use Rattle.rules.specs.declared.RunAnswer.{RunAnswer}
 use Rattle.rules.specs.declared.Report.{Report}
-use Rattle.rules.specs.Lists.{count}
-use Rattle.rules.specs.Meaning.{Values, LitUpTo, indexOf, clauses}
+use Rattle.rules.specs.Lists.{In, count}
+use Rattle.rules.specs.Meaning.{Values, negated, LitUpTo, indexOf, clauses}
 use Rattle.rules.specs.Search.{model}
 use Rattle.rules.specs.Models.{NoModel, Forced, Free, WitnessOf}
 use Rattle.rules.specs.Run.{Task, Row, Ended, statusAt, isForcedTo, firstCall, run}
 use Rattle.rules.specs.Trace.{Ends, first-none, first-stopped, settled, next-stopped}
 use Rattle.rules.specs.Hints.{hintsOf, HeldBy}
+use Rattle.rules.specs.Held.{withHeld, listWith}
 use Rattle.rules.specs.Answer.{Given, Buffers, given, logLength, refusalOf, taskOf, reportIf, reportOf, reportOfRun, logOfRows, isFree, isForced, Runs}
+use Rattle.rules.specs.Answer.{plainRefusal, plainTask, statusIf, statusAfter, hintsIf, hintsAfter, logIf, logAfter}
 use Rattle.rules.specs.RunRefusals.{Accepted, RunRefuses}
 use Rattle.rules.specs.Log.{LogOf}
 use Rattle.rules.proofs.ListLaws.{never}
@@ -106,12 +111,12 @@ module _ {g : Given} {r : Report} {after : Buffers} (w : Runs g r after) where
 
     -- settled: a literal is marked forced exactly if a model exists and all models contain it
     pub settled-forced : r .answer ≡ RunAnswer.Settled → (l : ℤ) → LitUpTo (g .vars) l
-        → isForcedTo (take (g .vars) (after .status)) l ↔ Forced (g .vars) (clauses (g .entries)) l
+        → isForcedTo (take (g .vars) (after .status)) l ↔ Forced (g .vars) (withHeld (clauses (g .entries)) (g .held)) l
     settled-forced e = rw table-is (theorems.settled-forced (taskOf g) limit (sym answer-is ∙ e))
 
     -- settled: a variable is marked free exactly if two models differ on it
     pub settled-free : r .answer ≡ RunAnswer.Settled → (i : ℕ) → i < g .vars
-        → (statusAt (take (g .vars) (after .status)) i ≡ 1) ↔ Free (g .vars) (clauses (g .entries)) i
+        → (statusAt (take (g .vars) (after .status)) i ≡ 1) ↔ Free (g .vars) (withHeld (clauses (g .entries)) (g .held)) i
     settled-free e = rw table-is (theorems.settled-free (taskOf g) limit (sym answer-is ∙ e))
 
     -- settled: no variable is open
@@ -119,7 +124,7 @@ module _ {g : Given} {r : Report} {after : Buffers} (w : Runs g r after) where
     settled-none-open e = rw table-is (theorems.settled-none-open (taskOf g) limit (sym answer-is ∙ e))
 
     -- unless the budget stopped the run, "no model" is answered exactly if there is none
-    pub no-model-exactly : r .answer ≢ RunAnswer.Stopped → (r .answer ≡ RunAnswer.NoModel) ↔ NoModel (g .vars) (clauses (g .entries))
+    pub no-model-exactly : r .answer ≢ RunAnswer.Stopped → (r .answer ≡ RunAnswer.NoModel) ↔ NoModel (g .vars) (withHeld (clauses (g .entries)) (g .held))
     no-model-exactly = rw answer-is (theorems.no-model-exactly (taskOf g) limit)
 
     -- after "no model" all variables are open, after one call
@@ -129,13 +134,14 @@ module _ {g : Given} {r : Report} {after : Buffers} (w : Runs g r after) where
         (table-is ∙ s, ap (λ (q : Report). q .calls) (returned h) ∙ l)
 
     -- however the run ended: a literal marked forced is in all models, and there is one
-    pub forced-sound : (l : ℤ) → LitUpTo (g .vars) l → isForcedTo (take (g .vars) (after .status)) l → Forced (g .vars) (clauses (g .entries)) l
+    pub forced-sound : (l : ℤ) → LitUpTo (g .vars) l → isForcedTo (take (g .vars) (after .status)) l
+        → Forced (g .vars) (withHeld (clauses (g .entries)) (g .held)) l
     forced-sound = rw table-is (theorems.forced-sound (taskOf g) limit)
 
     -- however the run ended: a variable marked free has a model of that run, or one with this variable alone flipped that is still a
     -- model, that differs on it from the run's first model
     pub free-witness : (i : ℕ) → i < g .vars → statusAt (take (g .vars) (after .status)) i ≡ 1
-        → WitnessOf (g .vars) (clauses (g .entries)) (run (taskOf g) .progress .models) i
+        → WitnessOf (g .vars) (withHeld (clauses (g .entries)) (g .held)) (run (taskOf g) .progress .models) i
     free-witness = rw table-is (theorems.free-witness (taskOf g) limit)
 
     -- calls begun are at most V + 1
@@ -173,8 +179,11 @@ module _ {g : Given} {r : Report} {after : Buffers} (w : Runs g r after) where
     -- clause with that number
     pub forced-held : (l : ℤ) → LitUpTo (g .vars) l → isForcedTo (take (g .vars) (after .status)) l
         → (m : Values) × (t : ℕ) × (firstCall (taskOf g) ≡ model m t)
-        × HeldBy (clauses (g .entries)) m l (getD (take (g .vars) (after .hints)) (indexOf l) 0)
-    forced-held = rw (table-is, hints-are) (theorems.forced-held (taskOf g) limit (g .entries) refl)
+        × HeldBy (withHeld (clauses (g .entries)) (g .held)) m l (getD (take (g .vars) (after .hints)) (indexOf l) 0)
+    forced-held =
+        rw (table-is, hints-are)
+        (theorems.forced-held (taskOf g) limit (listWith (g .entries) (g .held))
+        (sym (theorems.held-list (g .entries) (g .held) (h .listed .ended) (λ l i. h .holdable .up-to l i .some))))
 
     -- each hint is 0 if no first model was found
     pub hints-none : ((m : Values) (t : ℕ) → firstCall (taskOf g) ≡ model m t → ⊥) → take (g .vars) (after .hints) ≡ replicate (g .vars) 0
@@ -195,15 +204,59 @@ module _ {g : Given} {r : Report} {after : Buffers} (w : Runs g r after) where
   one-answer v = theorems.runs-unique w v
 
 -- budget and chunk limit never change a settled status
-pub settled-same : {es : List ℤ} {vars : ℕ} (budget limit budget′ limit′ : ℕ) {lent lent′ after after′ : Buffers} {r r′ : Report}
-    → Runs (given es vars budget limit lent) r after → Runs (given es vars budget′ limit′ lent′) r′ after′
-    → Accepted (given es vars budget limit lent) → Accepted (given es vars budget′ limit′ lent′)
+pub settled-same : {es : List ℤ} {vars : ℕ} {held : List ℤ} (budget limit budget′ limit′ : ℕ) {lent lent′ after after′ : Buffers} {r r′ : Report}
+    → Runs (given es vars held budget limit lent) r after → Runs (given es vars held budget′ limit′ lent′) r′ after′
+    → Accepted (given es vars held budget limit lent) → Accepted (given es vars held budget′ limit′ lent′)
     → r .answer ≡ RunAnswer.Settled → r′ .answer ≡ RunAnswer.Settled → take vars (after .status) ≡ take vars (after′ .status)
-settled-same {es} {vars} budget limit budget′ limit′ {lent} w v h i e f =
+settled-same {es} {vars} {held} budget limit budget′ limit′ {lent} w v h i e f =
     table-is w h ∙
-    theorems.settled-same (taskOf (given es vars budget limit lent)) (limit-some h) budget′ limit′ (limit-some i) (sym (answer-is w h) ∙ e)
+    theorems.settled-same (taskOf (given es vars held budget limit lent)) (limit-some h) budget′ limit′ (limit-some i) (sym (answer-is w h) ∙ e)
     (sym (answer-is v i) ∙ f) ∙
     sym (table-is v i)
   where
     limit-some : {g : Given} → Accepted g → 1 ≤ g .limit
     limit-some h = h .listed .lent .in-limits .limit-some
+
+-- ---- held literals
+
+module _ {es : List ℤ} {vars : ℕ} (held more : List ℤ) (budget chunk budget′ chunk′ : ℕ) {lent lent′ after after′ : Buffers} {r r′ : Report}
+    (w : Runs (given es vars held budget chunk lent) r after) (v : Runs (given es vars (held ++ more) budget′ chunk′ lent′) r′ after′)
+    (h : Accepted (given es vars held budget chunk lent)) (i : Accepted (given es vars (held ++ more) budget′ chunk′ lent′)) where
+  -- Of two runs of one formula where the second holds more, and is not stopped: every literal forced in the first is forced in the second
+  -- unless the second finds no model.
+  pub held-more : r′ .answer ≢ RunAnswer.Stopped → r′ .answer ≢ RunAnswer.NoModel → (l : ℤ) → LitUpTo vars l
+      → isForcedTo (take vars (after .status)) l → isForcedTo (take vars (after′ .status)) l
+  held-more s n l u =
+      rw (table-is w h, table-is v i)
+      (theorems.held-more (plainTask (given es vars held budget chunk lent)) held more budget′ chunk′ (limit w h) (limit v i) (λ e. s (answer-is v i ∙ e))
+      (λ e. n (answer-is v i ∙ e)) l u)
+
+-- Either literal of a variable that a run marks free may be held too: that never answers "no model".
+pub held-free : {es : List ℤ} {vars : ℕ} (held : List ℤ) (l : ℤ) (budget limit budget′ limit′ : ℕ) {lent lent′ after after′ : Buffers} {r r′ : Report}
+    → Runs (given es vars held budget limit lent) r after → Runs (given es vars (held ++ (l ∷ [])) budget′ limit′ lent′) r′ after′
+    → Accepted (given es vars held budget limit lent) → Accepted (given es vars (held ++ (l ∷ [])) budget′ limit′ lent′) → LitUpTo vars l
+    → statusAt (take vars (after .status)) (indexOf l) ≡ 1 → r′ .answer ≢ RunAnswer.NoModel
+held-free {es} {vars} held l budget chunk budget′ limit′ {lent} w v h i u f e =
+    theorems.held-free (plainTask (given es vars held budget chunk lent)) held budget′ limit′ (limit w h) (limit v i) l u (rw (table-is w h) at f)
+    (sym (answer-is v i) ∙ e)
+
+module _ {g : Given} {r : Report} {after : Buffers} (w : Runs g r after) where
+  -- Both signs of a variable held: there is no model, and no try is needed to find that.
+  pub held-signs : Accepted g → (l : ℤ) → In l (g .held) → In (negated l) (g .held) → (r .answer ≡ RunAnswer.NoModel) × (r .tries ≡ 0)
+  held-signs h l this other =
+      rw (returned w h)
+      (theorems.held-signs (plainTask g) (g .held) l (h .holdable .up-to l this .some) this other)
+
+  -- With an empty list all results are those of the rules without one.
+  pub as-before : g .held ≡ []
+      → let o = plainRefusal g in
+      let k = plainTask g in
+      (r ≡ reportIf o k) × (after .status ≡ statusIf o k (g .status)) × (after .hints ≡ hintsIf o k (g .hints)) × (after .log ≡ logIf o k (g .log))
+  unfolding reportOf statusAfter hintsAfter logAfter
+  as-before e =
+      let (o, k) = theorems.held-none g e in (
+        w .result-is ∙ rw (o, k),
+        w .status-is ∙ rw (o, k),
+        w .hints-are ∙ rw (o, k),
+        w .log-is ∙ rw (o, k),
+      )

@@ -1,32 +1,36 @@
 -- The laws of `run`: what is refused, and what is accepted.
 --
+--   found-some, found-none     what code finds, back to the rules
 --   checked-is        what is checked is what a run is refused for
 --   runs-refused      a refused run: zero counts, and nothing is written
 --   runs-accepted     an accepted one: the run over the fronts of the buffers
 --   accepted          what no rule refuses
---   is-formula, clauses-most, hints-len, log-len, allowed     and what its run requires
+--   list, clauses-are, entries-most, is-formula, clauses-most, hints-len, log-len, allowed     and what its run requires
 --
 -- Assumes nothing.
 use mathlib.Core.Path.{_≡_, refl, sym, _∙_, ap}
 use mathlib.Core.Bool.{Bool}
 use mathlib.Core.List.{List, _++_}
 use mathlib.Core.Option.{Option, none, some}
-use Prim.Native.Nat.{ℕ, _≤_}
+use Prim.Native.Nat.{ℕ, _+_, _≤_}
 use native.Mathlib.Omega.{arith}
+use lib.IntN.{ℤ}
 use lib.ListN.{length, take, drop}
 use lib.Seq.{length-take-le}
 use Rattle.rules.specs.declared.Refusal.{Refusal}
 use Rattle.rules.specs.declared.RunAnswer.{RunAnswer}
 use Rattle.rules.specs.declared.Report.{Report}
 use Rattle.rules.specs.Lists.{firstOf}
-use Rattle.rules.specs.Numbers.{maxClauses}
-use Rattle.rules.specs.Meaning.{clauses}
+use Rattle.rules.specs.Numbers.{maxClauses, maxEntries, maxHeld}
+use Rattle.rules.specs.Meaning.{Clause, clauses}
 use Rattle.rules.specs.Hints.{hintsOf}
+use Rattle.rules.specs.Held.{withHeld, listWith}
 use Rattle.rules.specs.Answer.{Given, Buffers, buffers, logLength, refusalOf, taskOf, reportIf, reportOf, statusIf, statusAfter, hintsIf, hintsAfter}
 use Rattle.rules.specs.Answer.{takingRules, outOfLimits, isShort, logIf, logAfter, Runs}
 use Rattle.rules.specs.RunRefusals.{Accepted}
 use Rattle.rules.proofs.ListLaws.{apart}
 use Rattle.rules.proofs.ClauseLaws.{length-clauses}
+use Rattle.rules.proofs.HeldLaws.{length-withHeld, clauses-held, length-listWith, listWith-up-to}
 use Rattle.rules.proofs.RefusedRuns.{run-accepted}
 use Rattle.refusals.specs.declared.Checked.{Checked}
 use Rattle.refusals.specs.declared.Checked.the-variants.{Accepted as NotRefused, Refused}
@@ -34,14 +38,14 @@ use Rattle.refusals.specs.Refuse.{found}
 use Rattle.formula.specs.Starts.{startsOf}
 use Rattle.formula.specs.Formula.{Formula}
 use Rattle.calls.specs.declared.next.Limits.{Limits}
-use Rattle.calls.specs.Next.{Allowed}
+use Rattle.calls.specs.Next.{Allowed, task}
 use Rattle.backbone.specs.First.{RunDone, HintsDone}
 
-found-some : (o : Option Refusal) {a : Refusal} → Refused a ≡ found o → o ≡ some a
+pub found-some : (o : Option Refusal) {a : Refusal} → Refused a ≡ found o → o ≡ some a
 found-some none e = apart cc
 found-some (some b) e = cc
 
-found-none : (o : Option Refusal) → NotRefused ≡ found o → o ≡ none
+pub found-none : (o : Option Refusal) → NotRefused ≡ found o → o ≡ none
 found-none none e = refl
 found-none (some b) e = apart cc
 
@@ -52,7 +56,7 @@ limitsOf g = record { budget = g .budget; chunk = g .limit }
 module _ (g : Given) where
   -- what the rules say of the list, with 10 and 1 as a run has them
   pub checked-is : {bad short : Bool} {c : Checked} → bad ≡ outOfLimits (g .vars) (g .limit) → short ≡ isShort g
-      → c ≡ found (firstOf (takingRules bad short (g .entries) (g .vars))) → c ≡ found (refusalOf g)
+      → c ≡ found (firstOf (takingRules bad short (g .entries) (g .vars) (g .held))) → c ≡ found (refusalOf g)
   unfolding refusalOf
   checked-is b s e = rw (b, s) at e
 
@@ -75,17 +79,35 @@ module _ (g : Given) where
     status-len : length (take (g .vars) (g .status)) ≡ g .vars
     status-len = length-take-le (g .vars) (g .status) (accepted .listed .lent .status-fits)
 
-    pub is-formula : Formula (length (take (g .vars) (g .status))) (g .entries) (startsOf (g .entries))
+    -- the one list, and its clauses
+    abbrev pub list : List ℤ
+    list = listWith (g .entries) (g .held)
+
+    pub clauses-are : clauses list ≡ withHeld (clauses (g .entries)) (g .held)
+    clauses-are = clauses-held (g .entries) (g .held) (accepted .listed .ended) (λ l i. accepted .holdable .up-to l i .some)
+
+    pub entries-most : length list ≤ maxEntries + (maxHeld + maxHeld)
+    entries-most = omega (arith, length-listWith (g .entries) (g .held), accepted .listed .entries-fit, accepted .holdable .few)
+
+    pub is-formula : Formula (length (take (g .vars) (g .status))) list (startsOf list)
     is-formula =
         record {
           vars-fit = rw status-len (accepted .listed .lent .in-limits .vars-fit);
-          starts-fit = omega (arith, accepted .listed .entries-fit);
+          starts-fit = omega (arith, entries-most);
           starts-are = refl;
-          up-to = rw status-len (accepted .up-to);
+          up-to = rw status-len (listWith-up-to (g .entries) (g .held) (accepted .up-to) (accepted .holdable .up-to));
         }
 
-    pub clauses-most : length (clauses (g .entries)) ≤ maxClauses
-    clauses-most = omega (arith, length-clauses (g .entries), accepted .listed .clauses-fit)
+    pub clauses-most : length (clauses list) ≤ maxClauses + maxHeld
+    clauses-most =
+        omega (
+          arith,
+          ap length clauses-are,
+          length-withHeld (clauses (g .entries)) (g .held),
+          length-clauses (g .entries),
+          accepted .listed .clauses-fit,
+          accepted .holdable .few,
+        )
 
     pub log-len : length (take (logLength (g .vars)) (g .log)) ≡ logLength (length (take (g .vars) (g .status)))
     log-len = length-take-le (logLength (g .vars)) (g .log) (accepted .listed .lent .log-fits) ∙ ap logLength (sym status-len)
@@ -102,10 +124,14 @@ module _ (g : Given) where
         buffers (status ++ drop (g .vars) (g .status)) (hints ++ drop (g .vars) (g .hints)) (log ++ drop (logLength (g .vars)) (g .log))
 
     pub runs-accepted : {r : Report} {first status hints log : List ℕ}
-        → HintsDone (g .entries) (length (take (g .vars) (g .status))) (limitsOf g) r first status hints log → Runs g r (rejoined status hints log)
+        → HintsDone list (length (take (g .vars) (g .status))) (limitsOf g) r first status hints log → Runs g r (rejoined status hints log)
     unfolding reportOf statusAfter hintsAfter logAfter
-    runs-accepted {r} {first} {status} {hints} {log} w = let d = rw status-len at w in go (d .run-done .done) (d .hints-are)
+    runs-accepted {r} {first} {status} {hints} {log} w =
+        let d = rw status-len at w in go (rw task-is at (d .run-done .done)) (d .hints-are ∙ ap hintsOf task-is)
       where
+        task-is : task list (g .vars) (limitsOf g) ≡ taskOf g
+        task-is = ap (λ (F : List Clause). record { vars = g .vars; budget = g .budget; limit = g .limit; formula = F }) clauses-are
+
         o : refusalOf g ≡ none
         o = found-none (refusalOf g) e
 

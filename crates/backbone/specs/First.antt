@@ -1,11 +1,11 @@
 -- The first call of a run as code makes it, and the run when it is done. Assumes nothing.
 use mathlib.Core.Path.{_≡_}
 use mathlib.Core.List.{List}
-use Prim.Native.Nat.{ℕ, _≤_}
+use Prim.Native.Nat.{ℕ, _+_, _≤_}
 use lib.IntN.{ℤ}
 use lib.ListN.{length, replicate}
 use Rattle.rules.specs.declared.Report.{Report}
-use Rattle.rules.specs.Numbers.{maxClauses}
+use Rattle.rules.specs.Numbers.{maxClauses, maxEntries, maxHeld}
 use Rattle.rules.specs.Meaning.{Values, clauses}
 use Rattle.rules.specs.Search.{Call, model, callOn}
 use Rattle.rules.specs.Run.{Task, blank, firstCall, run}
@@ -35,10 +35,11 @@ pub record Cleared (status log : List ℕ) : Type 0 where
 
 -- ---- what is required
 
--- a list that no rule refuses, with room for the log, and limits that none does
+-- a list that no rule refuses, with held literals behind it that none does, room for the log, and limits that none refuses
 pub record ListTaken (es : List ℤ) (first : Values) (status hints log : List ℕ) (limits : Limits) : Type 0 where
   pub formula : Formula (length status) es (startsOf es)
-  pub clauses-most : length (clauses es) ≤ maxClauses
+  pub entries-most : length es ≤ maxEntries + (maxHeld + maxHeld)
+  pub clauses-most : length (clauses es) ≤ maxClauses + maxHeld
   pub first-len : length first ≡ length status
   pub hints-len : length hints ≡ length status
   pub log-len : length log ≡ logLength (length status)

@@ -9,6 +9,7 @@ use calls::after::row_only;
 use calls::next::Limits;
 use calls::next::run_calls;
 use formula::starts::find_starts;
+use held::put_list;
 use rules::Outcome;
 use rules::Report;
 use search::call::CallEnd;
@@ -17,14 +18,15 @@ use search::meter::Meter;
 use steps::hint::put_hints;
 ghost use mathlib.Core.Path.{_≡_};
 ghost use lib.ListN.{length};
+ghost use Rattle.rules.specs.Held.{listWith};
 ghost use Rattle.formula.specs.Formula.{Formula};
 ghost use Rattle.backbone.specs.First.{FirstCalled, started, FirstFound, CallsBegin, RunBegins, ListDone};
 ghost use Rattle.backbone.specs.First.{HintsBegin, HintsDone, ListTaken};
 
 // The first call, from no value, on the formula alone.
 // Rules out: a call from the values that were there; one that starts with a try spent.
-// Required of: all_calls, which requires it too.
-fn first_call(entries: &[i32], starts: &[u16], values: &mut [u8], budget: u32) -> CallEnd
+// Required of: all_calls, which requires it too; setup::on_list, for the list that it is given.
+pub fn first_call(entries: &[i32], starts: &[u16], values: &mut [u8], budget: u32) -> CallEnd
     requires { ⌜ Formula (length (now values)) (now entries) (now starts) ⌝ }
     ensures { λ r. ⌜ FirstCalled (now (entries .entry)) (length (now (values .entry))) budget r (now (values .exit)) ⌝ }
 {
@@ -170,8 +172,8 @@ fn with_hints(
 // The run of a list that no rule refuses: every variable open, no row, and where the clauses start, once for all calls. The first
 // model, if there is one, stands in `first` afterwards.
 // Rules out: statuses of an older run; rows of one.
-// Required of: run, after 10, 1, 11 and 12.
-pub fn accepted_run(
+// Required of: held_run, for the list that it has made.
+fn accepted_run(
     entries: &[i32],
     first: &mut [u8],
     status: &mut [u8],
@@ -186,7 +188,7 @@ pub fn accepted_run(
     clear_bytes(first);
     clear_bytes(status);
     clear_numbers(log);
-    let mut starts = [0u16; rules::MAX_CLAUSES as usize + 1];
+    let mut starts = [0u16; rules::MAX_STARTS];
     let count = find_starts(entries, &mut starts);
     with_hints(
         entries,
@@ -197,4 +199,25 @@ pub fn accepted_run(
         log,
         limits,
     )
+}
+
+// The run of a list with the held literals behind it: one list, which is made here, once a run.
+// Rules out: held literals that flips do not see; the formula's clauses numbered behind them.
+// Required of: run, after 10, 1, 11, 12, 15 and 13.
+pub fn held_run(
+    entries: &[i32],
+    held: &[i32],
+    first: &mut [u8],
+    status: &mut [u8],
+    hints: &mut [u32],
+    log: &mut [u32],
+    limits: Limits,
+) -> Report
+    requires { ⌜ ListTaken (listWith (now entries) (now held)) (now first) (now status) (now hints) (now log) limits ⌝ }
+    ensures { λ r. ⌜ HintsDone (listWith (now (entries .entry)) (now (held .entry))) (length (now (status .entry))) limits
+        r (now (first .exit)) (now (status .exit)) (now (hints .exit)) (now (log .exit)) ⌝ }
+{
+    let mut list = [0i32; rules::MAX_LIST];
+    let n = put_list(entries, held, &mut list);
+    accepted_run(&list[..n], first, status, hints, log, limits)
 }

@@ -110,19 +110,20 @@ fn show(
     name: &[u8],
     entries: &[i32],
     vars: u32,
+    held: &[i32],
     budget: u32,
     limit: u32,
     status: &mut [u8],
     hints: &mut [u32],
     log: &mut [u32],
 ) {
-    let r = backbone::run(entries, vars, budget, limit, status, hints, log);
+    let r = backbone::run(entries, vars, held, budget, limit, status, hints, log);
     show_report(name, r);
     show_buffers(vars, r.calls, status, hints, log);
 }
 
 // A run with an element more in each buffer than three variables have.
-fn show_within(name: &[u8], entries: &[i32], vars: u32, budget: u32, limit: u32) {
+fn show_all(name: &[u8], entries: &[i32], vars: u32, held: &[i32], budget: u32, limit: u32) {
     let mut status = [7u8; 4];
     let mut hints = [7u32; 4];
     let mut log = [7u32; 25];
@@ -130,6 +131,7 @@ fn show_within(name: &[u8], entries: &[i32], vars: u32, budget: u32, limit: u32)
         name,
         entries,
         vars,
+        held,
         budget,
         limit,
         &mut status,
@@ -138,9 +140,21 @@ fn show_within(name: &[u8], entries: &[i32], vars: u32, budget: u32, limit: u32)
     );
 }
 
-// Three variables, budget 100 and chunk limit 2, with these buffers.
+// With nothing held.
+fn show_within(name: &[u8], entries: &[i32], vars: u32, budget: u32, limit: u32) {
+    let none = [0i32; 0];
+    show_all(name, entries, vars, &none, budget, limit);
+}
+
+// Three variables, nothing held, budget 100 and chunk limit 2, with these buffers.
 fn show_lent(name: &[u8], entries: &[i32], status: &mut [u8], hints: &mut [u32], log: &mut [u32]) {
-    show(name, entries, 3, 100, 2, status, hints, log);
+    let none = [0i32; 0];
+    show(name, entries, 3, &none, 100, 2, status, hints, log);
+}
+
+// Literals held, budget 100 and chunk limit 2.
+fn show_held(name: &[u8], entries: &[i32], vars: u32, held: &[i32]) {
+    show_all(name, entries, vars, held, 100, 2);
 }
 
 // Budget 100 and chunk limit 2.
@@ -232,10 +246,12 @@ fn order_cases() {
     let mut two = [7u8; 2];
     let mut hints = [7u32; 3];
     let mut log = [7u32; 25];
+    let none = [0i32; 0];
     show(
         b"10_before_1",
         &[2],
         3,
+        &none,
         100,
         0,
         &mut two,
@@ -246,6 +262,7 @@ fn order_cases() {
         b"1_before_11",
         &[4],
         3,
+        &none,
         100,
         2,
         &mut two,
@@ -263,6 +280,41 @@ fn order_cases() {
     show_plain(b"entries_before_12", &many, 1);
 }
 
+// Held literals: clauses behind the formula, which do not count against 1,024 or 4,096.
+fn held_cases() {
+    let none = [0i32; 0];
+    show_held(b"held", &none, 1, &[1]);
+    show_held(b"held_both_signs", &none, 1, &[1, -1]);
+    show_held(b"held_of_three", &[1, 2, 3, 0], 3, &[-1]);
+    show_held(b"held_two_of_three", &[1, 2, 3, 0], 3, &[-1, -2]);
+    show_held(b"held_no_model", &[1, 2, 0, 1, -2, 0], 2, &[-1]);
+}
+
+// 15 and 13, and 12 before them.
+fn held_refused_cases() {
+    let none = [0i32; 0];
+    let ones = [1i32; 257];
+    show_held(b"held_256", &none, 1, &ones[..256]);
+    show_held(b"held_257", &none, 1, &ones);
+    show_held(b"held_0", &none, 1, &[1, 0]);
+    show_held(b"held_above", &none, 1, &[-1, 1, -2, 0]);
+    show_held(b"held_least", &none, 1, &[-2147483648]);
+    show_held(b"held_no_variable", &none, 0, &[1]);
+    show_held(b"12_before_15", &[2, 0], 1, &ones);
+    show_held(b"12_before_13", &[2, 0], 1, &[0]);
+    let zeros = [0i32; 257];
+    show_held(b"15_before_13", &none, 1, &zeros);
+}
+
+fn held_large_cases() {
+    let ones = [1i32; 256];
+    let zeros = [0i32; 1024];
+    show_held(b"clauses_1024_held_256", &zeros, 1, &ones);
+    let mut ended = [1i32; 4096];
+    ended[4095] = 0;
+    show_held(b"entries_4096_held_256", &ended, 1, &ones);
+}
+
 fn main() {
     no_clause_cases();
     one_variable_cases();
@@ -274,4 +326,7 @@ fn main() {
     long_list_cases();
     above_cases();
     order_cases();
+    held_cases();
+    held_refused_cases();
+    held_large_cases();
 }

@@ -1,4 +1,5 @@
 pub mod FillLaws
+pub mod BitsLaws
 pub mod PutLaws
 pub mod PieceLaws
 pub mod RoomLaws

@@ -1,4 +1,5 @@
-// Buffers that are lent: clearing, copying, and putting bytes, words and numbers at a cursor.
+// Buffers that are lent: clearing, copying, writing bits, and putting bytes, words and numbers at a cursor.
+pub mod bits;
 pub mod clear;
 pub mod copy;
 pub mod put;

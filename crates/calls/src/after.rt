@@ -120,8 +120,9 @@ pub fn after_none(
     }
 }
 
-// The answer of a run that a call ends: without a model in the first call, or stopped.
-fn answer_of(outcome: Outcome) -> RunAnswer
+// The answer of a run that a call ends: without a model in the first call, or stopped; and of the first call alone.
+// Rules out: 20 for a stopped call; 0 without a model.
+pub fn answer_of(outcome: Outcome) -> RunAnswer
     ensures { λ r. ⌜ r ≡ answerOf outcome ⌝ }
 {
     match outcome {

@@ -15,7 +15,7 @@ pub enum FirstFalse {
 
 // The first clause that has no true literal under values, if there is one.
 // Rules out: the last such clause; an index, from 0, for the number.
-// Required of: steps::flip::all_true, which requires it too.
+// Required of: steps::flip::flip_by, which requires it too.
 pub fn first_false(entries: &[i32], starts: &[u16], values: &[u8]) -> FirstFalse
     requires { ⌜ Formula (length (now values)) (now entries) (now starts) ⌝ }
     ensures { λ r. ⌜ r ≡ firstFalseOf (firstFalse (now (values .entry)) (clauses (now (entries .entry)))) ⌝ }

@@ -4,7 +4,7 @@ ghost use Rattle.formula.specs.Starts.{RoomFor, StartsFound};
 // Writes where each clause starts, with one more for the end, and returns how many clauses there are. The rest of the buffer
 // stays.
 // Rules out: starts at the clauses' closing zeros; a cleared rest.
-// Required of: backbone::first::accepted_run, reason::ask::ask and reason::call::false_call, after 11.
+// Required of: backbone::first::accepted_run, setup::on_list and reason, for the list that they are given.
 pub fn find_starts(entries: &[i32], starts: &mut [u16]) -> usize
     requires { ⌜ RoomFor (now entries) (now starts) ⌝ }
     ensures { λ r. ⌜ StartsFound (now (entries .entry)) (now (starts .entry)) r (now (starts .exit)) ⌝ }

@@ -1,11 +1,11 @@
 -- From the promises of the crates below to those in numbers.
 --   refused-place        the place of a refused run
---   reads-fit runs-fit   places and counts fit the fields of the structs
---   reads-in runs-in     what is returned in numbers, with the buffers as they were left
+--   reads-fit runs-fit sets-up-fit   places and counts fit the fields of the structs
+--   reads-in runs-in sets-up-in      what is returned in numbers, with the buffers as they were left
 -- Assumes nothing.
 use mathlib.Core.Path.{_≡_, refl, _∙_, ap}
 use mathlib.Core.Logic.{_⊎_, inl, inr}
-use mathlib.Core.List.{List, _∷_}
+use mathlib.Core.List.{List, [], _∷_}
 use mathlib.Core.Option.{Option, none, some}
 use Prim.Native.Nat.{ℕ, _≤_}
 use native.Mathlib.Omega.{arith}
@@ -19,14 +19,18 @@ use Rattle.rules.specs.Numbers.{maxEntries, refusalPlace, runPlace}
 use Rattle.rules.specs.Reading.{Judged, accepted, refused, judge, returned, readingOf, Reads}
 use Rattle.rules.specs.Answer.{Given, Buffers, refusalOf, taskOf, reportIf, reportOf, Runs}
 use Rattle.rules.specs.RunRefusals.{RunRefuses, bad-limits, short-buffer, list-long, not-ended, zero-over, entry-over-vars}
+use Rattle.rules.specs.RunRefusals.{many-held, bad-literal}
 use Rattle.rules.proofs.RefusalLaws.{refusal-sound}
 use Rattle.rules.proofs.PlaceLaws.{refuses-place}
-use Rattle.rules.proofs.PrintedLaws.{table-runs}
+use Rattle.rules.proofs.PrintedLaws.{table-formed}
 use Rattle.rules.proofs.RefusedRuns.{run-refused, run-accepted}
 use Rattle.rules.proofs.RunTheorems.{run-answer}
+use Rattle.rules.specs.Search.{Call, model, no-model, stopped}
+use Rattle.rules.specs.Setup.{SetupGiven, setupRefusal, setupCall, setupReport, setupReportIf, setupReportOf, SetsUp}
+use Rattle.rules.proofs.SetupTheorems.{setup-refused}
 use Rattle.igbezolum.specs.declared.IgbReading.{IgbReading}
 use Rattle.igbezolum.specs.declared.IgbReport.{IgbReport}
-use Rattle.igbezolum.specs.Linked.{readingNumbers, reportNumbers, ReadsIn, RunsIn, ReadingFits}
+use Rattle.igbezolum.specs.Linked.{readingNumbers, reportNumbers, ReadsIn, RunsIn, SetsUpIn, ReadingFits}
 
 -- ---- a reading
 
@@ -41,7 +45,7 @@ reads-fit {text = text} {before = before} {r = r} d = go (judge (length before) 
     go (refused a) q e =
         rw e (record { place-fits = refuses-place (refusal-sound (length before) text q); count-fits = omega arith })
     go (accepted s es) q e =
-        rw e (record { place-fits = omega arith; count-fits = table-runs (length before) text q .listed .entries-fit })
+        rw e (record { place-fits = omega arith; count-fits = table-formed (length before) text q [] .listed .entries-fit })
 
 -- ---- a run
 
@@ -52,6 +56,8 @@ refused-place (list-long w h) = omega arith
 refused-place (not-ended w s front l q h) = s
 refused-place (zero-over w s d front back q h) = omega (arith, s, ap length q, length-append front (pos 0 ∷ back))
 refused-place (entry-over-vars w front l back q k h) = omega (arith, w .entries-fit, ap length q, length-append front (l ∷ back))
+refused-place (many-held w h) = omega arith
+refused-place (bad-literal w s front l back q k h) = omega (arith, ap length q, length-append front (l ∷ back))
 
 ended-place : {a : RunAnswer} → (a ≡ RunAnswer.Settled) ⊎ ((a ≡ RunAnswer.NoModel) ⊎ (a ≡ RunAnswer.Stopped)) → runPlace a ≤ maxEntries
 ended-place (inl h) = rw h (omega arith)
@@ -70,6 +76,24 @@ runs-fit {g = g} {r = r} d = go (refusalOf g) refl (report-is d)
     go none q e =
         rw e (ended-place (run-answer (taskOf g) (run-accepted g .0 q .listed .lent .in-limits .limit-some)))
 
+-- ---- one valid setup
+
+ended-call : (c : Call) → runPlace (setupReport c .answer) ≤ maxEntries
+ended-call (model m t) = omega arith
+ended-call (no-model t) = omega arith
+ended-call (stopped t) = omega arith
+
+setup-report-is : {g : SetupGiven} {r : Report} {after : List ℕ} → SetsUp g r after → r ≡ setupReportIf (setupRefusal g) (setupCall g)
+unfolding setupReportOf
+setup-report-is d = d .result-is
+
+pub sets-up-fit : {g : SetupGiven} {r : Report} {after : List ℕ} → SetsUp g r after → runPlace (r .answer) ≤ maxEntries
+sets-up-fit {g = g} {r = r} d = go (setupRefusal g) refl (setup-report-is d)
+  where
+    go : (o : Option Refusal) → setupRefusal g ≡ o → r ≡ setupReportIf o (setupCall g) → runPlace (r .answer) ≤ maxEntries
+    go (some a) q e = rw e (refused-place (setup-refused g a .0 q))
+    go none q e = rw e (ended-call (setupCall g))
+
 -- ---- the promise in numbers follows from the promise of the crate below
 
 pub reads-in : {text : List ℕ} {before after : List ℤ} {r : Reading} {n : IgbReading}
@@ -79,3 +103,6 @@ reads-in d e = record { result-is = e ∙ ap readingNumbers (d .result-is); afte
 pub runs-in : {g : Given} {r : Report} {after : Buffers} {n : IgbReport} → Runs g r after → n ≡ reportNumbers r → RunsIn g n after
 runs-in d e =
     record { result-is = e ∙ ap reportNumbers (d .result-is); status-is = d .status-is; hints-are = d .hints-are; log-is = d .log-is }
+
+pub sets-up-in : {g : SetupGiven} {r : Report} {after : List ℕ} {n : IgbReport} → SetsUp g r after → n ≡ reportNumbers r → SetsUpIn g n after
+sets-up-in d e = record { result-is = e ∙ ap reportNumbers (d .result-is); values-are = d .values-are }

@@ -1,4 +1,5 @@
 pub mod FitLaws
 pub mod Promises
+pub mod HeldPromises
 pub mod WhyFit
 pub mod WhyPromises

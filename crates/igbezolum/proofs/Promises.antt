@@ -40,6 +40,7 @@ use Rattle.rules.specs.Models.{NoModel, Forced, Free, WitnessOf}
 use Rattle.rules.specs.Lists.{count}
 use Rattle.rules.specs.Run.{Row, statusAt, isForcedTo, firstCall}
 use Rattle.rules.specs.Hints.{HeldBy}
+use Rattle.rules.specs.Held.{withHeld, Holdable}
 use Rattle.rules.specs.Answer.{Given, Buffers, given, logLength, taskOf, reportOf, logOfRows, isFree, isForced, Runs}
 use Rattle.rules.specs.RunRefusals.{Lent, Accepted, RunRefuses}
 use Rattle.rules.specs.Log.{LogOf}
@@ -91,7 +92,8 @@ refusalOfNumber n at =
     (cond (eqb n 10) Refusal.BadLimits
     (cond (eqb n 11) (Refusal.BadList at)
     (cond (eqb n 12) (Refusal.EntryOverVars at)
-    (Refusal.BadLiteral at))))
+    (cond (eqb n 13) (Refusal.BadLiteral at)
+    Refusal.ManyHeld))))
 
 abbrev pub runAnswer : ℕ → ℕ → RunAnswer
 runAnswer n at =
@@ -100,7 +102,7 @@ runAnswer n at =
     (cond (eqb n 21) RunAnswer.Stopped
     (RunAnswer.Refused (refusalOfNumber n at))))
 
-runAnswer-numbers : (a : RunAnswer) → runAnswer (runNumber a) (runPlace a) ≡ a
+pub runAnswer-numbers : (a : RunAnswer) → runAnswer (runNumber a) (runPlace a) ≡ a
 runAnswer-numbers RunAnswer.Settled = refl
 runAnswer-numbers RunAnswer.NoModel = refl
 runAnswer-numbers RunAnswer.Stopped = refl
@@ -109,6 +111,7 @@ runAnswer-numbers (RunAnswer.Refused Refusal.BadLimits) = refl
 runAnswer-numbers (RunAnswer.Refused (Refusal.BadList at)) = refl
 runAnswer-numbers (RunAnswer.Refused (Refusal.EntryOverVars at)) = refl
 runAnswer-numbers (RunAnswer.Refused (Refusal.BadLiteral at)) = refl
+runAnswer-numbers (RunAnswer.Refused Refusal.ManyHeld) = refl
 
 -- ---- and so the promise below
 
@@ -134,7 +137,7 @@ reportFrom n =
 reading-back : (r : Reading) → readingFrom (readingNumbers r) ≡ r
 reading-back r = ap (λ (a : ReadAnswer). record { answer = a; vars = r .vars; clauses = r .clauses; entries = r .entries }) (readAnswer-numbers (r .answer))
 
-report-back : (r : Report) → reportFrom (reportNumbers r) ≡ r
+pub report-back : (r : Report) → reportFrom (reportNumbers r) ≡ r
 report-back r =
     ap (λ (a : RunAnswer). record { answer = a; calls = r .calls; tries = r .tries; forced = r .forced; free = r .free })
     (runAnswer-numbers (r .answer))
@@ -227,12 +230,13 @@ module _ {text : List ℕ} {before after : List ℤ} {n : IgbReading} (w : Reads
   pub read-room : maxEntries ≤ length before
   read-room = read-accepted text before is-accepted .0
 
-  -- with buffers that are long enough and limits that are allowed the run of what was read is not refused
-  pub card-runs : (budget limit : ℕ) (lent : Buffers) → Lent (given (take (n .count) after) (n .vars) budget limit lent)
-      → Accepted (given (take (n .count) after) (n .vars) budget limit lent)
-  card-runs budget limit lent l =
+  -- with literals that may be held, buffers that are long enough and limits that are allowed the run of what was read is not refused
+  pub card-runs : (held : List ℤ) (budget limit : ℕ) (lent : Buffers) → Holdable (n .vars) held
+      → Lent (given (take (n .count) after) (n .vars) held budget limit lent)
+      → Accepted (given (take (n .count) after) (n .vars) held budget limit lent)
+  card-runs held budget limit lent h l =
       let c = read-card in
-      dimacs-runs (given (take (n .count) after) (n .vars) budget limit lent) (rw (← c .stands) at (c .derived)) l
+      dimacs-runs (given (take (n .count) after) (n .vars) held budget limit lent) (rw (← c .stands) at (c .derived)) l h
 
 -- 0 is answered exactly if there is room and the text is one of the grammar
 pub read-exactly : {text : List ℕ} {before after : List ℤ} {n : IgbReading} → ReadsIn text before n after
@@ -259,10 +263,10 @@ module _ {g : Given} {n : IgbReport} {after : Buffers} (w : RunsIn g n after) wh
   below : Runs g (reportFrom n) after
   below = runs-back w
 
-  answer-of : (k : ℕ) → n .answer ≡ k → reportFrom n .answer ≡ runAnswer k (n .place)
+  pub answer-of : (k : ℕ) → n .answer ≡ k → reportFrom n .answer ≡ runAnswer k (n .place)
   answer-of k e = ap (λ (m : ℕ). runAnswer m (n .place)) e
 
-  number-is : n .answer ≡ runNumber (reportFrom n .answer)
+  pub number-is : n .answer ≡ runNumber (reportFrom n .answer)
   number-is = ap (λ (m : IgbReport). m .answer) (w .result-is) ∙ ap (λ (r : Report). runNumber (r .answer)) (sym (below .result-is))
 
   place-is : n .place ≡ runPlace (reportFrom n .answer)
@@ -327,11 +331,12 @@ module _ {g : Given} {n : IgbReport} {after : Buffers} (w : RunsIn g n after) wh
 
   -- after 0 a literal is marked forced exactly if a model exists and all models contain it
   pub settled-forced : n .answer ≡ 0 → (l : ℤ) → LitUpTo (g .vars) l
-      → isForcedTo (take (g .vars) (after .status)) l ↔ Forced (g .vars) (clauses (g .entries)) l
+      → isForcedTo (take (g .vars) (after .status)) l ↔ Forced (g .vars) (withHeld (clauses (g .entries)) (g .held)) l
   settled-forced e = run.settled-forced below (settled-accepted e) (answer-of 0 e)
 
   -- a variable is marked free exactly if two models differ on it
-  pub settled-free : n .answer ≡ 0 → (i : ℕ) → i < g .vars → (statusAt (take (g .vars) (after .status)) i ≡ 1) ↔ Free (g .vars) (clauses (g .entries)) i
+  pub settled-free : n .answer ≡ 0 → (i : ℕ) → i < g .vars
+      → (statusAt (take (g .vars) (after .status)) i ≡ 1) ↔ Free (g .vars) (withHeld (clauses (g .entries)) (g .held)) i
   settled-free e = run.settled-free below (settled-accepted e) (answer-of 0 e)
 
   -- and none is open
@@ -341,7 +346,7 @@ module _ {g : Given} {n : IgbReport} {after : Buffers} (w : RunsIn g n after) wh
   -- ---- no model
 
   -- unless the budget stopped the run, 20 is answered exactly if there is no model
-  pub no-model-exactly : Answered n → n .answer ≢ 21 → (n .answer ≡ 20) ↔ NoModel (g .vars) (clauses (g .entries))
+  pub no-model-exactly : Answered n → n .answer ≢ 21 → (n .answer ≡ 20) ↔ NoModel (g .vars) (withHeld (clauses (g .entries)) (g .held))
   no-model-exactly a ne =
       let exactly = run.no-model-exactly below (answered .0 a) (λ e. ne (number-is ∙ ap runNumber e)) in
       (λ e. exactly .0 (answer-of 20 e), λ m. number-is ∙ ap runNumber (exactly .1 m))
@@ -354,18 +359,19 @@ module _ {g : Given} {n : IgbReport} {after : Buffers} (w : RunsIn g n after) wh
 
   module _ (a : Answered n) where
     -- a literal marked forced is in all models, and there is one
-    pub forced-sound : (l : ℤ) → LitUpTo (g .vars) l → isForcedTo (take (g .vars) (after .status)) l → Forced (g .vars) (clauses (g .entries)) l
+    pub forced-sound : (l : ℤ) → LitUpTo (g .vars) l → isForcedTo (take (g .vars) (after .status)) l
+        → Forced (g .vars) (withHeld (clauses (g .entries)) (g .held)) l
     forced-sound = run.forced-sound below (answered .0 a)
 
     -- a variable marked free has its witness against the run's first model
     pub free-witness : (i : ℕ) → i < g .vars → statusAt (take (g .vars) (after .status)) i ≡ 1
-        → WitnessOf (g .vars) (clauses (g .entries)) (Rattle.rules.specs.Run.run (taskOf g) .progress .models) i
+        → WitnessOf (g .vars) (withHeld (clauses (g .entries)) (g .held)) (Rattle.rules.specs.Run.run (taskOf g) .progress .models) i
     free-witness = run.free-witness below (answered .0 a)
 
     -- a literal marked forced has a hint, and in the first model it is the only true literal of the clause with that number
     pub forced-held : (l : ℤ) → LitUpTo (g .vars) l → isForcedTo (take (g .vars) (after .status)) l
         → (m : Values) × (t : ℕ) × (firstCall (taskOf g) ≡ model m t)
-        × HeldBy (clauses (g .entries)) m l (getD (take (g .vars) (after .hints)) (indexOf l) 0)
+        × HeldBy (withHeld (clauses (g .entries)) (g .held)) m l (getD (take (g .vars) (after .hints)) (indexOf l) 0)
     forced-held = run.forced-held below (answered .0 a)
 
     -- each hint is 0 if no first model was found
@@ -392,8 +398,8 @@ module _ {g : Given} {n : IgbReport} {after : Buffers} (w : RunsIn g n after) wh
     logged = run.logged below (answered .0 a)
 
 -- budget and chunk limit never change a settled status
-pub settled-same : {es : List ℤ} {vars : ℕ} (budget limit budget′ limit′ : ℕ) {lent lent′ after after′ : Buffers} {n n′ : IgbReport}
-    → RunsIn (given es vars budget limit lent) n after → RunsIn (given es vars budget′ limit′ lent′) n′ after′
+pub settled-same : {es : List ℤ} {vars : ℕ} {held : List ℤ} (budget limit budget′ limit′ : ℕ) {lent lent′ after after′ : Buffers} {n n′ : IgbReport}
+    → RunsIn (given es vars held budget limit lent) n after → RunsIn (given es vars held budget′ limit′ lent′) n′ after′
     → n .answer ≡ 0 → n′ .answer ≡ 0 → take vars (after .status) ≡ take vars (after′ .status)
 settled-same budget limit budget′ limit′ w v e f =
     run.settled-same budget limit budget′ limit′ (runs-back w) (runs-back v) (settled-accepted w e) (settled-accepted v f) (answer-of w 0 e) (answer-of v 0 f)

@@ -22,9 +22,9 @@ use Rattle.rules.specs.declared.Refusal.{Refusal}
 use Rattle.rules.specs.declared.WhyAnswer.{WhyAnswer}
 use Rattle.rules.specs.declared.WhyReport.{WhyReport}
 use Rattle.rules.specs.Numbers.{maxClauses, refusalNumber, refusalPlace}
-use Rattle.rules.specs.Meaning.{Values, clauses}
+use Rattle.rules.specs.Meaning.{Values, clauses, bitOf}
 use Rattle.rules.specs.Models.{NoModel, Forced}
-use Rattle.rules.specs.Why.{WhyGiven, whyNumber, whyPlace, whyReportOf, Explains, WhyAccepted, WhyRefuses, FalseModel, marked, bitOf}
+use Rattle.rules.specs.Why.{WhyGiven, whyNumber, whyPlace, whyReportOf, Explains, WhyAccepted, WhyRefuses, FalseModel, marked}
 use Rattle.rules.proofs.ListLaws.{never}
 use Rattle.reason.proofs.Promises as reason
 use Rattle.igbezolum.specs.declared.why.IgbWhyReport.{IgbWhyReport}
@@ -51,6 +51,7 @@ whyAnswer-numbers (WhyAnswer.Refused Refusal.BadLimits) = refl
 whyAnswer-numbers (WhyAnswer.Refused (Refusal.BadList at)) = refl
 whyAnswer-numbers (WhyAnswer.Refused (Refusal.EntryOverVars at)) = refl
 whyAnswer-numbers (WhyAnswer.Refused (Refusal.BadLiteral at)) = refl
+whyAnswer-numbers (WhyAnswer.Refused Refusal.ManyHeld) = refl
 
 abbrev pub whyReportFrom : IgbWhyReport → WhyReport
 whyReportFrom n = record { answer = whyAnswer (n .answer) (n .place); calls = n .calls; tries = n .tries }

@@ -9,6 +9,7 @@ use Rattle.rules.specs.declared.Report.{Report}
 use Rattle.rules.specs.Numbers.{maxText, maxEntries, readNumber, readPlace, runNumber, runPlace}
 use Rattle.rules.specs.Reading.{readingOf, entriesAfter}
 use Rattle.rules.specs.Answer.{Given, Buffers, reportOf, statusAfter, hintsAfter, logAfter}
+use Rattle.rules.specs.Setup.{SetupGiven, setupReportOf, setupValuesAfter}
 use Rattle.igbezolum.specs.declared.IgbReading.{IgbReading}
 use Rattle.igbezolum.specs.declared.IgbReport.{IgbReport}
 
@@ -44,6 +45,11 @@ pub record RunsIn (g : Given) (result : IgbReport) (after : Buffers) : Type 0 wh
   pub status-is : after .status ≡ statusAfter g
   pub hints-are : after .hints ≡ hintsAfter g
   pub log-is : after .log ≡ logAfter g
+
+-- what one valid setup promises, in numbers
+pub record SetsUpIn (g : SetupGiven) (result : IgbReport) (after : List ℕ) : Type 0 where
+  pub result-is : result ≡ reportNumbers (setupReportOf g)
+  pub values-are : after ≡ setupValuesAfter g
 
 -- place and count of every reading are within these
 

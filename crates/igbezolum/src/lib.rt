@@ -1,5 +1,5 @@
-// The functions that C and Rust link (libigbezolum.a): the reader, the run, why a literal is forced and the printed table, each thin over
-// its crate. They answer in the numbers of docs/RULES.md, "What comes back"; include/igbezolum.h is the page for their callers.
+// The functions that C and Rust link (libigbezolum.a): the reader, the run, one valid setup, why a literal is forced and the printed table, each
+// thin over its crate. They answer in the numbers of docs/RULES.md, "What comes back"; include/igbezolum.h is the page for their callers.
 pub mod why;
 
 ghost use mathlib.Core.Path.{_≡_};
@@ -7,7 +7,8 @@ ghost use Prim.Native.Nat.{_≤_};
 ghost use Rattle.rules.specs.Numbers.{maxEntries, runPlace};
 ghost use Rattle.rules.specs.Answer.{given, buffers};
 ghost use Rattle.rules.specs.Printed.{Prints};
-ghost use Rattle.igbezolum.specs.Linked.{readingNumbers, reportNumbers, ReadingFits, ReadsIn, RunsIn};
+ghost use Rattle.rules.specs.Setup.{setupGiven};
+ghost use Rattle.igbezolum.specs.Linked.{readingNumbers, reportNumbers, ReadingFits, ReadsIn, RunsIn, SetsUpIn};
 use rules::numbers::read_number;
 use rules::numbers::read_place;
 use rules::numbers::run_number;
@@ -73,30 +74,48 @@ pub extern "C" fn igb_read(text: &[u8], entries: &mut [i32]) -> IgbReading
     reading_numbers(reading)
 }
 
-// The run over an entry list, into the statuses, the hints and the log that are lent.
+// The run over an entry list with literals held, into the statuses, the hints and the log that are lent.
 // Rules out: the free counted as forced; a run under a budget that was not given.
 #[no_mangle]
 pub extern "C" fn igb_run(
     entries: &[i32],
     vars: u32,
+    held: &[i32],
     budget: u32,
     chunk_limit: u32,
     status: &mut [u8],
     hints: &mut [u32],
     log: &mut [u32],
 ) -> IgbReport
-    ensures { λ r. ⌜ RunsIn (given (now (entries .entry)) vars budget «chunk_limit» (buffers (now (status .entry)) (now (hints .entry)) (now (log .entry))))
+    ensures { λ r. ⌜ RunsIn (given (now (entries .entry)) vars (now (held .entry)) budget «chunk_limit»
+        (buffers (now (status .entry)) (now (hints .entry)) (now (log .entry))))
         r (buffers (now (status .exit)) (now (hints .exit)) (now (log .exit))) ⌝ }
 {
-    let report = backbone::run(entries, vars, budget, chunk_limit, status, hints, log);
+    let report = backbone::run(entries, vars, held, budget, chunk_limit, status, hints, log);
     report_numbers(report)
 }
 
-// The printed table of a text, put at the start of the buffer that is lent; how many bytes it has.
+// One valid setup of an entry list with literals held, into the values that are lent.
+// Rules out: a setup without a held literal; a call under a budget that was not given.
+#[no_mangle]
+pub extern "C" fn igb_setup(
+    entries: &[i32],
+    vars: u32,
+    held: &[i32],
+    budget: u32,
+    values: &mut [u8],
+) -> IgbReport
+    ensures { λ r. ⌜ SetsUpIn (setupGiven (now (entries .entry)) vars (now (held .entry)) budget (now (values .entry))) r (now (values .exit)) ⌝ }
+{
+    let report = setup::setup(entries, vars, held, budget, values);
+    report_numbers(report)
+}
+
+// The printed table of a text with literals held, put at the start of the buffer that is lent; how many bytes it has.
 // Rules out: one table for every text; a length that is not the table's.
 #[no_mangle]
-pub extern "C" fn igb_table(text: &[u8], out: &mut [u8]) -> usize
-    ensures { λ r. ⌜ Prints (now (text .entry)) (now (out .entry)) r (now (out .exit)) ⌝ }
+pub extern "C" fn igb_table(text: &[u8], held: &[i32], out: &mut [u8]) -> usize
+    ensures { λ r. ⌜ Prints (now (text .entry)) (now (held .entry)) (now (out .entry)) r (now (out .exit)) ⌝ }
 {
-    printed::print(text, out)
+    printed::print(text, held, out)
 }

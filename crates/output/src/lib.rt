@@ -2,10 +2,16 @@
 // `printed`.
 use libc::STDOUT_FILENO;
 
-// Prints the table of a text.
+// Prints the table of a text, with literals held.
 // It returns nothing to rule out: tests/table.sh and the stored output of `table` and `vectors` stand in for a contract.
-pub fn write_table(text: &[u8]) {
+pub fn write_table(text: &[u8], held: &[i32]) {
     let mut out = [0u8; rules::MAX_TABLE];
-    let n = printed::print(text, &mut out);
+    let n = printed::print(text, held, &mut out);
     io::write_all(STDOUT_FILENO, &out[..n]);
+}
+
+// Prints the table of a text with nothing held.
+pub fn write_plain(text: &[u8]) {
+    let none = [0i32; 1];
+    write_table(text, &none[..0]);
 }

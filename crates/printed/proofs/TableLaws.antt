@@ -1,5 +1,6 @@
 -- The laws of the table: by the number of the answer it is the lines that are put, and what a run or a reading leaves is what it is of.
 --
+--   table-refusal, ran-of         the table of a refused run; any other has run
 --   table-room        room for the table is room for its answer line
 --   table-first, table-lines      the table after 20, and after 0 and 21
 --   run-ready, run-table          what a run with buffers of just the size leaves, and its table
@@ -13,36 +14,63 @@ use mathlib.Core.Path.{_≡_, refl, sym, _∙_, ap, ap₂}
 use mathlib.Core.Logic.{_≢_, inl, inr}
 use mathlib.Core.Bool.{Bool, true, false}
 use mathlib.Core.List.{List, [], _∷_, _++_}
+use mathlib.Core.Option.{Option, none, some}
 use Prim.Native.Nat.{ℕ, suc, _+_, _≤_, _<_}
 use native.Mathlib.Omega.{arith}
 use lib.IntN.{ℤ}
 use lib.Dec.{eqb, leb}
 use lib.ListN.{length, take, length-replicate, drop-of-length-le}
-use borrow.Author.Tests.{leb-true, eqb-true}
+use borrow.Author.Tests.{leb-true, eqb-true, lt-ltb}
 use Rattle.rules.specs.declared.Reading.{Reading}
+use Rattle.rules.specs.declared.Refusal.{Refusal}
 use Rattle.rules.specs.declared.RunAnswer.{RunAnswer}
 use Rattle.rules.specs.declared.Report.{Report}
 use Rattle.rules.specs.Lists.{count, countIf}
-use Rattle.rules.specs.Numbers.{maxEntries, readNumber, readPlace, runNumber}
-use Rattle.rules.specs.Reading.{Reads}
+use Rattle.rules.specs.Numbers.{maxEntries, readNumber, readPlace, refusalNumber, runNumber, runPlace}
+use Rattle.rules.specs.Reading.{Judged, Reads}
 use Rattle.rules.specs.Run.{run}
 use Rattle.rules.specs.Hints.{hintsOf}
-use Rattle.rules.specs.Answer.{Given, Buffers, given, taskOf, isFree, isForced, reportOfRun, reportOf, statusAfter, hintsAfter, Runs}
-use Rattle.rules.specs.RunRefusals.{Accepted}
+use Rattle.rules.specs.Answer.{Given, Buffers, given, refusalOf, taskOf, isFree, isForced, reportOfRun, reportIf, reportOf, statusAfter, hintsAfter}
+use Rattle.rules.specs.Answer.{Runs}
+use Rattle.rules.specs.RunRefusals.{Formed, Accepted}
 use Rattle.rules.specs.Printed.{refusedLine, answerLine, statusLines, tableBy, tableOfRun}
 use Rattle.rules.specs.Printed.{tableBudget, tableChunk, tableOfJudged, tableOf, maxTable, countIfRoom, Prints}
-use Rattle.rules.proofs.RunTheorems.{run-answer, run-statuses}
-use Rattle.rules.proofs.RefusedRuns.{run-accepted}
-use Rattle.rules.proofs.BufferTheorems.{length-statusAfter, length-hintsAfter}
+use Rattle.rules.proofs.ListLaws.{never}
+use Rattle.rules.proofs.RunTheorems.{run-statuses}
+use Rattle.rules.proofs.RefusedRuns.{run-refused, run-accepted, by-held}
+use Rattle.rules.proofs.BufferTheorems.{refused-writes-nothing, length-statusAfter, length-hintsAfter}
 use Rattle.rules.proofs.ReadList as reading
-use Rattle.rules.proofs.PrintedLaws.{table-runs}
+use Rattle.rules.proofs.PrintedLaws.{table-formed}
 use Rattle.rules.proofs.TableLaws.{length-tableOf}
 use Rattle.buffers.specs.Put.{Room, Put}
-use Rattle.printed.specs.Table.{listGiven, tableOfList, Sized, Ran, TableReady}
+use Rattle.printed.specs.Table.{isRefusal, listGiven, tableOfList, Sized, Ran, TableReady}
 use Rattle.buffers.proofs.PutLaws.{room-first, room-same}
 use Rattle.buffers.proofs.RoomLaws.{short-count, short-bytes, whole-count, whole-bytes}
 
 -- ---- by the number of the answer
+
+refusal-number : (b : Refusal) → (1 ≤ refusalNumber b) × (refusalNumber b < 20)
+refusal-number Refusal.ShortBuffer = (omega arith, omega arith)
+refusal-number Refusal.BadLimits = (omega arith, omega arith)
+refusal-number (Refusal.BadList at) = (omega arith, omega arith)
+refusal-number (Refusal.EntryOverVars at) = (omega arith, omega arith)
+refusal-number (Refusal.BadLiteral at) = (omega arith, omega arith)
+refusal-number Refusal.ManyHeld = (omega arith, omega arith)
+
+pub table-refusal : (a : RunAnswer) (vars : ℕ) (r : Report) (ss hs : List ℕ) → isRefusal (runNumber a) ≡ true
+    → tableBy a vars r ss hs ≡ refusedLine (runNumber a) (runPlace a)
+table-refusal RunAnswer.Settled vars r ss hs h = absurd (never h refl)
+table-refusal RunAnswer.NoModel vars r ss hs h = absurd (never h refl)
+table-refusal RunAnswer.Stopped vars r ss hs h = absurd (never h refl)
+table-refusal (RunAnswer.Refused b) vars r ss hs h = refl
+
+pub ran-of : (a : RunAnswer) → isRefusal (runNumber a) ≡ false → Ran a
+ran-of RunAnswer.Settled h = inl refl
+ran-of RunAnswer.NoModel h = inr (inl refl)
+ran-of RunAnswer.Stopped h = inr (inr refl)
+ran-of (RunAnswer.Refused b) h =
+    let (least, most) = refusal-number b in
+    absurd (never (rw (lt-ltb 0 (refusalNumber b) least, lt-ltb (refusalNumber b) 20 most) refl) h)
 
 pub table-first : (a : RunAnswer) (vars : ℕ) (r : Report) (ss hs : List ℕ) → Ran a → runNumber a ≡ 20 → tableBy a vars r ss hs ≡ answerLine vars r
 table-first a vars r ss hs (inl e) h = absurd (omega (arith, ap runNumber e, h))
@@ -55,8 +83,8 @@ table-lines a vars r ss hs (inl e) h = ap (λ (b : RunAnswer). tableBy b vars r 
 table-lines a vars r ss hs (inr (inl e)) h = absurd (h (ap runNumber e))
 table-lines a vars r ss hs (inr (inr e)) h = ap (λ (b : RunAnswer). tableBy b vars r ss hs) e
 
-pub table-room : {vars : ℕ} {r : Report} {ss hs out : List ℕ} → TableReady vars r ss hs out → Room 0 (answerLine vars r) out
-table-room {vars} {r} {ss} {hs} {out} w = go (w .ended)
+pub table-room : {vars : ℕ} {r : Report} {ss hs out : List ℕ} → TableReady vars r ss hs out → Ran (r .answer) → Room 0 (answerLine vars r) out
+table-room {vars} {r} {ss} {hs} {out} w = go
   where
     go : Ran (r .answer) → Room 0 (answerLine vars r) out
     go (inl e) =
@@ -95,13 +123,39 @@ unfolding hintsAfter
 run-hints g w e =
     rw (run-accepted g .1 w) (ap (λ (xs : List ℕ). hintsOf (taskOf g) ++ xs) (drop-of-length-le (g .hints) {i = g .vars} (omega (arith, e))))
 
-module _ {vars : ℕ} {es : List ℤ} {room : Buffers} (w : Accepted (listGiven vars es)) (z : Sized vars room) where
+-- a refused run leaves its buffers, and an accepted one their lengths
+status-len : (g : Given) → length (statusAfter g) ≡ length (g .status)
+status-len g = go (refusalOf g) refl
+  where
+    go : (o : Option Refusal) → refusalOf g ≡ o → length (statusAfter g) ≡ length (g .status)
+    go none e = length-statusAfter g (run-accepted g .0 e)
+    go (some a) e = ap length (refused-writes-nothing g a (run-refused g a .0 e) .1)
+
+hints-len : (g : Given) → length (hintsAfter g) ≡ length (g .hints)
+hints-len g = go (refusalOf g) refl
+  where
+    go : (o : Option Refusal) → refusalOf g ≡ o → length (hintsAfter g) ≡ length (g .hints)
+    go none e = length-hintsAfter g (run-accepted g .0 e)
+    go (some a) e = ap length (refused-writes-nothing g a (run-refused g a .0 e) .2)
+
+counted-le : (g : Given) → reportOf g .forced + reportOf g .free ≤ g .vars
+counted-le g = go (refusalOf g) refl
+  where
+    go : (o : Option Refusal) → refusalOf g ≡ o → reportOf g .forced + reportOf g .free ≤ g .vars
+    go none e =
+        let w = run-accepted g .0 e in
+        let k = taskOf g in
+        rw (run-report g w)
+        (omega (arith, count-both (run k .progress .statuses), run-statuses k (w .listed .lent .in-limits .limit-some) .0))
+    go (some a) e = rw (refused-writes-nothing g a (run-refused g a .0 e) .0) (omega arith)
+
+module _ {vars : ℕ} {es held : List ℤ} {room : Buffers} (w : Formed (listGiven vars es held)) (z : Sized vars room) where
   -- the run with these buffers
   abbrev lent : Given
-  lent = given es vars tableBudget tableChunk room
+  lent = given es vars held tableBudget tableChunk room
 
-  lent-accepted : Accepted lent
-  lent-accepted =
+  lent-formed : Formed lent
+  lent-formed =
       let l = w .listed in
       record {
         listed = record {
@@ -118,44 +172,52 @@ module _ {vars : ℕ} {es : List ℤ} {room : Buffers} (w : Accepted (listGiven 
         up-to = w .up-to;
       }
 
-  same-report : reportOf lent ≡ reportOf (listGiven vars es)
-  same-report = run-report lent lent-accepted ∙ sym (run-report (listGiven vars es) w)
+  same-refusal : refusalOf lent ≡ refusalOf (listGiven vars es held)
+  same-refusal = by-held lent lent-formed ∙ sym (by-held (listGiven vars es held) w)
 
-  same-status : statusAfter lent ≡ statusAfter (listGiven vars es)
-  same-status =
-      run-status lent lent-accepted (z .status-len) ∙
-      sym (run-status (listGiven vars es) w (length-replicate {A = ℕ} vars 0))
+  same-report : reportOf lent ≡ reportOf (listGiven vars es held)
+  unfolding reportOf
+  same-report = ap (λ (o : Option Refusal). reportIf o (taskOf (listGiven vars es held))) same-refusal
 
-  same-hints : hintsAfter lent ≡ hintsAfter (listGiven vars es)
-  same-hints =
-      run-hints lent lent-accepted (z .hints-len) ∙
-      sym (run-hints (listGiven vars es) w (length-replicate {A = ℕ} vars 0))
+  -- the table of a refused run has its refusal alone, and any other has the same statuses and hints
+  same-table : tableOfRun vars (reportOf (listGiven vars es held)) (statusAfter lent) (hintsAfter lent) ≡ tableOfList vars es held
+  same-table = go (refusalOf lent) refl
+    where
+      go : (o : Option Refusal) → refusalOf lent ≡ o
+          → tableOfRun vars (reportOf (listGiven vars es held)) (statusAfter lent) (hintsAfter lent) ≡ tableOfList vars es held
+      go none e =
+          let own = run-accepted lent .0 e in
+          let other = run-accepted (listGiven vars es held) .0 (sym same-refusal ∙ e) in
+          ap₂ (tableOfRun vars (reportOf (listGiven vars es held)))
+          (run-status lent own (z .status-len) ∙ sym (run-status (listGiven vars es held) other (length-replicate {A = ℕ} vars 0)))
+          (run-hints lent own (z .hints-len) ∙ sym (run-hints (listGiven vars es held) other (length-replicate {A = ℕ} vars 0)))
+      go (some a) e =
+          let other = run-refused (listGiven vars es held) a .0 (sym same-refusal ∙ e) in
+          let said = refused-writes-nothing (listGiven vars es held) a other .0 in
+          ap (λ (q : Report). tableOfRun vars q (statusAfter lent) (hintsAfter lent)) said ∙
+          sym
+          (ap (λ (q : Report). tableOfRun vars q (statusAfter (listGiven vars es held)) (hintsAfter (listGiven vars es held))) said)
 
   module _ {r : Report} {left : Buffers} (d : Runs lent r left) where
-    pub run-table : tableOfRun vars r (left .status) (left .hints) ≡ tableOfList vars es
+    pub run-table : tableOfRun vars r (left .status) (left .hints) ≡ tableOfList vars es held
     run-table =
         ap (λ (q : Report). tableOfRun vars q (left .status) (left .hints)) (d .result-is ∙ same-report) ∙
-        ap₂ (tableOfRun vars (reportOf (listGiven vars es))) (d .status-is ∙ same-status) (d .hints-are ∙ same-hints)
+        ap₂ (tableOfRun vars (reportOf (listGiven vars es held))) (d .status-is) (d .hints-are) ∙
+        same-table
 
-    report-is : r ≡ reportOfRun (run (taskOf (listGiven vars es)))
-    report-is = d .result-is ∙ same-report ∙ run-report (listGiven vars es) w
-
-    pub run-ready : {out : List ℕ} → Room 0 (tableOfList vars es) out → TableReady vars r (left .status) (left .hints) out
+    pub run-ready : {out : List ℕ} → Room 0 (tableOfList vars es held) out → TableReady vars r (left .status) (left .hints) out
     run-ready {out} m =
-        let k = taskOf (listGiven vars es) in
-        let some : 1 ≤ 16 = omega arith in
         record {
-          ended = rw report-is (run-answer k some);
-          counted = rw report-is (omega (arith, count-both (run k .progress .statuses), run-statuses k some .0));
-          vars-fit = omega (arith, ap length (d .status-is), length-statusAfter lent lent-accepted, z .status-len, w .listed .lent .in-limits .vars-fit);
+          counted = rw (d .result-is) (counted-le lent);
+          vars-fit = omega (arith, ap length (d .status-is), status-len lent, z .status-len, w .listed .lent .in-limits .vars-fit);
           hints-fit =
               omega (
                 arith,
                 ap length (d .status-is),
-                length-statusAfter lent lent-accepted,
+                status-len lent,
                 z .status-len,
                 ap length (d .hints-are),
-                length-hintsAfter lent lent-accepted,
+                hints-len lent,
                 z .hints-len,
               );
           room = room-same (sym run-table) m;
@@ -164,45 +226,48 @@ module _ {vars : ℕ} {es : List ℤ} {room : Buffers} (w : Accepted (listGiven 
 -- ---- the reading
 
 -- an accepted reading: the entries are the front of the buffer
-pub record ReadList (text : List ℕ) (r : Reading) (after : List ℤ) : Type 0 where
+pub record ReadList (text : List ℕ) (r : Reading) (after held : List ℤ) : Type 0 where
   pub counted : r .entries ≤ length after
-  pub runs : Accepted (listGiven (r .vars) (take (r .entries) after))
-  pub table-is : tableOf text ≡ tableOfList (r .vars) (take (r .entries) after)
+  pub runs : Formed (listGiven (r .vars) (take (r .entries) after) held)
+  pub table-is : tableOf text held ≡ tableOfList (r .vars) (take (r .entries) after) held
 
-module _ {text : List ℕ} {before : List ℤ} {r : Reading} {after : List ℤ} (d : Reads text before r after) (z : length before ≡ maxEntries) where
-  pub read-line : readNumber (r .answer) ≢ 0 → tableOf text ≡ refusedLine (readNumber (r .answer)) (readPlace (r .answer))
+module _ {text : List ℕ} {before : List ℤ} {r : Reading} {after : List ℤ} (d : Reads text before r after) (z : length before ≡ maxEntries)
+    (held : List ℤ) where
+  pub read-line : readNumber (r .answer) ≢ 0 → tableOf text held ≡ refusedLine (readNumber (r .answer)) (readPlace (r .answer))
   unfolding tableOf
-  read-line h = ap tableOfJudged (reading.read-refused d z h)
+  read-line h = ap (λ (j : Judged). tableOfJudged j held) (reading.read-refused d z h)
 
-  pub read-list : readNumber (r .answer) ≡ 0 → ReadList text r after
+  pub read-list : readNumber (r .answer) ≡ 0 → ReadList text r after held
   unfolding tableOf
   read-list h =
       let w = reading.read-list d z h in
       record {
         counted = w .counted;
-        runs = rw (w .vars-are) (table-runs maxEntries text (w .judged));
-        table-is = ap tableOfJudged (w .judged) ∙ ap (λ (v : ℕ). tableOfList v (take (r .entries) after)) (sym (w .vars-are));
+        runs = rw (w .vars-are) (table-formed maxEntries text (w .judged) held);
+        table-is =
+            ap (λ (j : Judged). tableOfJudged j held) (w .judged) ∙ ap (λ (v : ℕ). tableOfList v (take (r .entries) after) held) (sym (w .vars-are));
       }
 
 -- ---- the contract
 
-pub prints-short : (text before : List ℕ) → length before < maxTable → Prints text before 0 before
-prints-short text before h =
-    record { count-is = short-count maxTable (tableOf text) before h; after-is = short-bytes maxTable (tableOf text) before h }
+pub prints-short : (text : List ℕ) (held : List ℤ) (before : List ℕ) → length before < maxTable → Prints text held before 0 before
+prints-short text held before h =
+    record { count-is = short-count maxTable (tableOf text held) before h; after-is = short-bytes maxTable (tableOf text held) before h }
 
-pub whole-room : (text out : List ℕ) → maxTable ≤ length out → Room 0 (tableOf text) out
-whole-room text out h = record { fits = omega (arith, length-tableOf text) }
+pub whole-room : (text : List ℕ) (held : List ℤ) (out : List ℕ) → maxTable ≤ length out → Room 0 (tableOf text held) out
+whole-room text held out h = record { fits = omega (arith, length-tableOf text held) }
 
-pub prints-table : {text before : List ℕ} {n : ℕ} {after : List ℕ} → maxTable ≤ length before → Put 0 (tableOf text) before n after → Prints text before n after
-prints-table {text} {before} h p =
+pub prints-table : {text : List ℕ} {held : List ℤ} {before : List ℕ} {n : ℕ} {after : List ℕ} → maxTable ≤ length before
+    → Put 0 (tableOf text held) before n after → Prints text held before n after
+prints-table {text} {held} {before} h p =
     record {
-      count-is = whole-count maxTable (tableOf text) before (length-tableOf text) h p;
-      after-is = whole-bytes maxTable (tableOf text) before (length-tableOf text) h p;
+      count-is = whole-count maxTable (tableOf text held) before (length-tableOf text held) h p;
+      after-is = whole-bytes maxTable (tableOf text held) before (length-tableOf text held) h p;
     }
 
-pub prints-le : {text before : List ℕ} {n : ℕ} {after : List ℕ} → Prints text before n after → n ≤ maxTable
-prints-le {text} {before} {n} p = go (leb maxTable (length before)) (p .count-is)
+pub prints-le : {text : List ℕ} {held : List ℤ} {before : List ℕ} {n : ℕ} {after : List ℕ} → Prints text held before n after → n ≤ maxTable
+prints-le {text} {held} {before} {n} p = go (leb maxTable (length before)) (p .count-is)
   where
-    go : (b : Bool) → n ≡ countIfRoom b (tableOf text) → n ≤ maxTable
-    go true e = omega (arith, e, length-tableOf text)
+    go : (b : Bool) → n ≡ countIfRoom b (tableOf text held) → n ≤ maxTable
+    go true e = omega (arith, e, length-tableOf text held)
     go false e = omega (arith, e)

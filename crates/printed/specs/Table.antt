@@ -1,8 +1,10 @@
 -- The table of docs/RULES.md, "The printed table", of an entry list: what a table is put from. Assumes nothing.
 use mathlib.Core.Path.{_≡_}
 use mathlib.Core.Logic.{_⊎_}
+use mathlib.Core.Bool.{Bool, _&&_}
 use mathlib.Core.List.{List}
 use Prim.Native.Nat.{ℕ, _+_, _≤_}
+use lib.Dec.{ltb}
 use lib.IntN.{ℤ}
 use lib.ListN.{length}
 use Rattle.rules.specs.declared.RunAnswer.{RunAnswer}
@@ -11,25 +13,29 @@ use Rattle.rules.specs.Numbers.{maxVars}
 use Rattle.rules.specs.Text.{Sizes}
 use Rattle.rules.specs.Reading.{accepted, entriesAfter}
 use Rattle.rules.specs.Answer.{Given, Buffers, logLength, statusAfter, hintsAfter, logAfter}
-use Rattle.rules.specs.RunRefusals.{Accepted}
+use Rattle.rules.specs.RunRefusals.{Formed}
 use Rattle.rules.specs.Printed.{tableOfRun, tableGiven, tableOfJudged, tableOf}
 use Rattle.buffers.specs.Put.{Room, Put}
+
+-- the number of a run's answer is that of a refusal: 1 to 19
+abbrev pub isRefusal : ℕ → Bool
+isRefusal n = ltb 0 n && ltb n 20
 
 -- the number of clauses is not looked at
 abbrev pub sizes : ℕ → Sizes
 sizes vars = record { vars = vars; clauses = 0 }
 
-abbrev pub listGiven : ℕ → List ℤ → Given
-listGiven vars es = tableGiven (sizes vars) es
+abbrev pub listGiven : ℕ → List ℤ → List ℤ → Given
+listGiven vars es held = tableGiven (sizes vars) es held
 
--- the table of an accepted text with this entry list
-abbrev pub tableOfList : ℕ → List ℤ → List ℕ
-tableOfList vars es = tableOfJudged (accepted (sizes vars) es)
+-- the table of an accepted text with this entry list, and with literals held
+abbrev pub tableOfList : ℕ → List ℤ → List ℤ → List ℕ
+tableOfList vars es held = tableOfJudged (accepted (sizes vars) es) held
 
--- a list whose run no rule refuses, and room for its table
-pub record ListReady (vars : ℕ) (es : List ℤ) (out : List ℕ) : Type 0 where
-  pub runs : Accepted (listGiven vars es)
-  pub room : Room 0 (tableOfList vars es) out
+-- a list that no rule refuses, and room for its table
+pub record ListReady (vars : ℕ) (es held : List ℤ) (out : List ℕ) : Type 0 where
+  pub runs : Formed (listGiven vars es held)
+  pub room : Room 0 (tableOfList vars es held) out
 
 -- buffers of just the size
 pub record Sized (vars : ℕ) (lent : Buffers) : Type 0 where
@@ -41,9 +47,8 @@ pub record Sized (vars : ℕ) (lent : Buffers) : Type 0 where
 abbrev pub Ran : RunAnswer → Type 0
 Ran a = (a ≡ RunAnswer.Settled) ⊎ ((a ≡ RunAnswer.NoModel) ⊎ (a ≡ RunAnswer.Stopped))
 
--- a run that is over, its statuses and hints, and room for its table
+-- a run that is over, or was refused, its statuses and hints, and room for its table
 pub record TableReady (vars : ℕ) (r : Report) (ss hs out : List ℕ) : Type 0 where
-  pub ended : Ran (r .answer)
   pub counted : r .forced + r .free ≤ vars
   pub vars-fit : length ss ≤ maxVars
   pub hints-fit : length ss ≤ length hs
@@ -51,12 +56,12 @@ pub record TableReady (vars : ℕ) (r : Report) (ss hs out : List ℕ) : Type 0 
 
 -- the table of a list is put, and the buffers are as its run leaves them
 pub record RunPut (g : Given) (before : List ℕ) (next : ℕ) (left : Buffers) (after : List ℕ) : Type 0 where
-  pub put : Put 0 (tableOfList (g .vars) (g .entries)) before next after
+  pub put : Put 0 (tableOfList (g .vars) (g .entries) (g .held)) before next after
   pub status-is : left .status ≡ statusAfter g
   pub hints-are : left .hints ≡ hintsAfter g
   pub log-is : left .log ≡ logAfter g
 
 -- the table of a text is put, and the entries are as its reading leaves them
-pub record TextPut (text : List ℕ) (entries : List ℤ) (before : List ℕ) (next : ℕ) (read : List ℤ) (after : List ℕ) : Type 0 where
-  pub put : Put 0 (tableOf text) before next after
+pub record TextPut (text : List ℕ) (held entries : List ℤ) (before : List ℕ) (next : ℕ) (read : List ℤ) (after : List ℕ) : Type 0 where
+  pub put : Put 0 (tableOf text held) before next after
   pub entries-are : read ≡ entriesAfter text entries

@@ -23,10 +23,10 @@ use Rattle.rules.specs.declared.Outcome.{Outcome}
 use Rattle.rules.specs.declared.WhyAnswer.{WhyAnswer}
 use Rattle.rules.specs.declared.WhyReport.{WhyReport}
 use Rattle.rules.specs.Numbers.{maxClauses}
-use Rattle.rules.specs.Meaning.{Clause, clauses}
+use Rattle.rules.specs.Meaning.{Clause, clauses, bitOf}
 use Rattle.rules.specs.Search.{Call, model, no-model, stopped, callOn}
 use Rattle.rules.specs.Run.{blank}
-use Rattle.rules.specs.Why.{Question, WhyEnded, marked, firstMarks, bitOf, plainCall, falseCall, onVisit, visits, onSecond, onPlain, why}
+use Rattle.rules.specs.Why.{Question, WhyEnded, marked, firstMarks, plainCall, falseCall, onVisit, visits, onSecond, onPlain, why}
 use Rattle.rules.proofs.WhyLaws.{marked-first}
 use Rattle.formula.specs.Starts.{StartsFound, callClauses}
 use Rattle.formula.proofs.ClauseLaws.{callClauses-formula, nil-up-to}

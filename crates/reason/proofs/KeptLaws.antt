@@ -5,25 +5,23 @@
 --   Puts, puts-start, puts-clause, puts-room, puts-zero, puts-other, puts-done     the loop that puts them
 --   puts-one          one entry that is put
 --   ones-more         one mark more
---   bitOf-false, bitOf-true, Bits, bits-start, bits-step, bits-done     values written as bits
 --
 -- Assumes nothing.
 use mathlib.Core.Path.{_≡_, refl, sym, _∙_, ap}
 use mathlib.Core.Logic.{_≢_}
 use mathlib.Core.Bool.{true}
-use mathlib.Core.List.{List, [], _∷_, _++_, map, append-nil, List·Memᴰ·head, List·Memᴰ·tail, List·Memᴰ·not-nil}
+use mathlib.Core.List.{List, [], _∷_, _++_, append-nil, List·Memᴰ·head, List·Memᴰ·tail, List·Memᴰ·not-nil}
 use Prim.Native.Nat.{ℕ, zero, suc, _+_, _≤_, _<_}
 use native.Mathlib.Omega.{arith}
 use native.Mathlib.Numerals.{add-one}
 use lib.IntN.{ℤ, pos, negsuc}
-use lib.ListN.{getD, set, length, take, drop, replicate, length-set, length-replicate, length-map, drop-of-length-le, List·getD-map}
-use lib.Seq.{drop-cons, take-suc-set, append-snoc, set-at, getD-set-other}
+use lib.ListN.{getD, set, length, take, drop, replicate, length-set, length-replicate, drop-of-length-le}
+use lib.Seq.{drop-cons, take-suc-set, append-snoc, set-at}
 use Rattle.rules.specs.Lists.{In}
 use Rattle.rules.specs.Meaning.{Clause, leading, clauses}
 use Rattle.rules.specs.Answer.{isEnded}
-use Rattle.rules.specs.Why.{marked, bitOf}
+use Rattle.rules.specs.Why.{marked}
 use Rattle.rules.proofs.ListLaws.{eqz-sound}
-use Rattle.buffers.proofs.FillLaws.{Filled, filled-start, filled-step, filled-done}
 use Rattle.rules.proofs.ClauseLaws.{length-leading}
 use Rattle.reason.specs.Kept.{entryIf, markedEntries, nextIf, putIf, PutsIf, MarkRoom, MarkedPut}
 
@@ -209,39 +207,6 @@ pub ones-more : (i : ℕ) (ms : List ℕ) → i < length ms → set (replicate i
 ones-more i ms h =
     rw (add-one i, drop-cons ms i 0 h)
     (set-at (replicate i 1) (getD ms i 0) (drop (suc i) ms) 1 i (length-replicate i 1) ∙ ones-snoc i (drop (suc i) ms))
-
--- ---- values as bits
-
-pub bitOf-false : (b : ℕ) → b < 2 → 0 ≡ bitOf b
-bitOf-false zero h = refl
-bitOf-false (suc zero) h = refl
-bitOf-false (suc (suc b)) h = absurd (omega arith)
-
-pub bitOf-true : (b : ℕ) → 2 ≤ b → 1 ≡ bitOf b
-bitOf-true zero h = absurd (omega arith)
-bitOf-true (suc zero) h = absurd (omega arith)
-bitOf-true (suc (suc b)) h = refl
-
--- the first i values are bits, the others as they were
-pub record Bits (before now : List ℕ) (i : ℕ) : Type 0 where
-  pub len : length now ≡ length before
-  pub filled : Filled (map bitOf before) i now
-  pub rest : (k : ℕ) → i ≤ k → getD now k 0 ≡ getD before k 0
-
-pub bits-start : (before : List ℕ) → Bits before before 0
-bits-start before =
-    record { len = refl; filled = filled-start (map bitOf before) before (sym (length-map before bitOf)); rest = λ k h. refl }
-
-pub bits-step : {before now : List ℕ} {i b : ℕ} → Bits before now i → i < length now → b ≡ bitOf (getD now i 0) → Bits before (set now i b) (i + 1)
-bits-step {before} {now} {i} {b} w h e =
-    record {
-      len = length-set now i b ∙ w .len;
-      filled = filled-step 0 b (w .filled) h (List·getD-map bitOf before i 0 ∙ ap bitOf (sym (w .rest i (omega arith))) ∙ sym e);
-      rest = λ k l. getD-set-other now i k b 0 (omega arith) ∙ w .rest k (omega arith);
-    }
-
-pub bits-done : {before now : List ℕ} {i : ℕ} → Bits before now i → length now ≤ i → now ≡ map bitOf before
-bits-done w h = filled-done (w .filled) h
 
 -- ---- one entry that is put
 

@@ -22,9 +22,9 @@ use Rattle.rules.specs.declared.Refusal.{Refusal}
 use Rattle.rules.specs.declared.WhyAnswer.{WhyAnswer}
 use Rattle.rules.specs.declared.WhyReport.{WhyReport}
 use Rattle.rules.specs.Numbers.{maxClauses}
-use Rattle.rules.specs.Meaning.{Values, varOf, clauses}
+use Rattle.rules.specs.Meaning.{Values, varOf, clauses, bitOf}
 use Rattle.rules.specs.Models.{NoModel, Forced}
-use Rattle.rules.specs.Why.{WhyGiven, WhyAccepted, WhyRefuses, Explains, FalseModel, marked, bitOf, questionOf, why, whyRefusal}
+use Rattle.rules.specs.Why.{WhyGiven, WhyAccepted, WhyRefuses, Explains, FalseModel, marked, questionOf, why, whyRefusal}
 use Rattle.rules.proofs.ClauseLaws.{length-clauses}
 use Rattle.rules.proofs.WhyTheorems as theorems
 use Rattle.rules.proofs.ListLaws.{never}

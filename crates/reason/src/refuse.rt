@@ -1,11 +1,11 @@
 // What is refused, in the order 10, 1, 11, 12, 13 (docs/RULES.md, "Why").
-use formula::lit::var_of;
 use refusals::Checked;
+use refusals::held::is_no_literal;
 use rules::Lit;
 use rules::Refusal;
 ghost use mathlib.Core.Path.{_≡_};
 ghost use Rattle.rules.specs.Lists.{firstOf};
-ghost use Rattle.rules.specs.Why.{whyShort, isNoLiteral, literalRules, whyRules};
+ghost use Rattle.rules.specs.Why.{whyShort, literalRules, whyRules};
 ghost use Rattle.refusals.specs.Refuse.{found};
 
 // Whether a buffer is too short, by their lengths.
@@ -16,21 +16,12 @@ fn is_short(vars: u32, marks: usize, values: usize) -> bool
     marks < rules::MAX_MARKS || values < vars as usize
 }
 
-// Whether a number is no literal of the variables: 0, or one above V.
-// Rules out: the least i32 taken for one; -3 not taken for one of three variables.
-fn is_no_literal(vars: u32, l: Lit) -> bool
-    ensures { λ r. ⌜ r ≡ isNoLiteral vars (l .0) ⌝ }
-{
-    let v = var_of(l);
-    v.0 == 0 || vars < v.0
-}
-
 // 13, if the literal is none.
 // Rules out: another place than 0; 12 for 13.
 fn refuse_literal(literal: Lit, vars: u32) -> Checked
     ensures { λ r. ⌜ r ≡ found (firstOf (literalRules (literal .0) vars)) ⌝ }
 {
-    if is_no_literal(vars, literal) {
+    if is_no_literal(literal, vars) {
         return Checked::Refused(Refusal::BadLiteral(0));
     }
     Checked::Accepted
@@ -43,7 +34,7 @@ pub fn refuse(entries: &[i32], vars: u32, literal: Lit, marks: usize, values: us
 {
     let many = rules::MAX_VARS < vars;
     let short = is_short(vars, marks, values);
-    let checked = refusals::refuse(many, short, entries, vars);
+    let checked = refusals::refuse(many, short, entries, vars, &entries[..0]);
     match checked {
         Checked::Refused(refusal) => Checked::Refused(refusal),
         Checked::Accepted => refuse_literal(literal, vars),

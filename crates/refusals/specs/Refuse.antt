@@ -7,3 +7,8 @@ use Rattle.refusals.specs.declared.Checked.the-variants.{Accepted, Refus
 abbrev pub found : Option Refusal → Checked
 found none = Accepted
 found (some a) = Refused a
+
+-- the first of two that refuses
+abbrev pub orRest : Checked → Checked → Checked
+orRest (Refused a) other = Refused a
+orRest Accepted other = other

@@ -1,11 +1,13 @@
-// What is refused of an entry list, in the order 10, 1, 11, 12 (docs/RULES.md, "What comes back"). 10 and 1 are of whoever takes the list, 11 and
-// 12 the list's own. Nobody has to check one first.
+// What is refused of an entry list and of held literals, in the order 10, 1, 11, 12, 15, 13 (docs/RULES.md, "What comes back"). 10 and 1 are of
+// whoever takes them, 11 and 12 the list's own, 15 and 13 the held literals'. Nobody has to check any first.
 ghost use mathlib.Core.Path.{_≡_};
 ghost use Rattle.rules.specs.Lists.{nthIndex, firstOf};
 ghost use Rattle.rules.specs.Reading.{isZero};
 ghost use Rattle.rules.specs.Answer.{isEnded, isAbove, listRules, takingRules, outOfLimits, tooShort};
 ghost use Rattle.refusals.specs.Refuse.{found};
 use rules::Refusal;
+
+pub mod held;
 
 // What the rules say of a list.
 pub enum Checked {
@@ -82,10 +84,11 @@ fn refuse_list(entries: &[i32], vars: u32) -> Checked
     Checked::Accepted
 }
 
-// Why a list is refused, if it is, whoever takes it: 10 where its limits are bad, 1 where a buffer is too short, then the list's own.
-// Rules out: 11 before 1; a list of 1,025 clauses accepted.
-pub fn refuse(bad_limits: bool, short: bool, entries: &[i32], vars: u32) -> Checked
-    ensures { λ r. ⌜ r ≡ found (firstOf (takingRules «bad_limits» short (now (entries .entry)) vars)) ⌝ }
+// Why a list with held literals is refused, if it is, whoever takes it: 10 where its limits are bad, 1 where a buffer is too short, then the
+// list's own, then the held literals'.
+// Rules out: 11 before 1; 13 before 12.
+pub fn refuse(bad_limits: bool, short: bool, entries: &[i32], vars: u32, held: &[i32]) -> Checked
+    ensures { λ r. ⌜ r ≡ found (firstOf (takingRules «bad_limits» short (now (entries .entry)) vars (now (held .entry)))) ⌝ }
 {
     if bad_limits {
         return Checked::Refused(Refusal::BadLimits);
@@ -93,7 +96,9 @@ pub fn refuse(bad_limits: bool, short: bool, entries: &[i32], vars: u32) -> Chec
     if short {
         return Checked::Refused(Refusal::ShortBuffer);
     }
-    refuse_list(entries, vars)
+    let list = refuse_list(entries, vars);
+    let literals = held::refuse_held(held, vars);
+    held::first_of(list, literals)
 }
 
 // Whether a run's limits are not allowed.

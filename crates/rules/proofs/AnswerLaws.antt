@@ -7,7 +7,10 @@
 --   room-sound, room-complete, room-false, room-of     the test of 1, both ways
 --   list-false                    a list that no case of 11 refuses
 --   list-long-first, not-ended-first, zero-over-first, above-first, list-first     the first rule that refuses a list, or none
---   refusal-lent                  where 10 and 1 are not to be given, the refusal is the list's
+--   refusal-lent                  where 10 and 1 are not to be given, the refusal is the list's or the held literals'
+--   first-front, first-back       the first of two lists of rules
+--   no-literal-sound, no-literal-complete, no-literal-false, no-literal-of     the test of 13, both ways
+--   many-held-first, bad-held-first, held-first     the first rule that refuses held literals, or none
 --
 -- Assumes nothing.
 use mathlib.Core.Path.{_≡_, refl, ap}
@@ -22,12 +25,14 @@ use lib.Dec.{eqb, ltb}
 use lib.ListN.{length, length-append}
 use borrow.Author.Tests.{eqb-true, eqb-false, eq-eqb, ne-eqb, ltb-true, ltb-false, lt-ltb, le-ltb}
 use Rattle.rules.specs.declared.Refusal.{Refusal}
-use Rattle.rules.specs.Lists.{any, count, countIf, indexIf, nthIndex, firstOf}
-use Rattle.rules.specs.Numbers.{maxVars, maxClauses, maxEntries, maxChunk}
+use Rattle.rules.specs.Lists.{any, count, countIf, indexIf, nthIndex, Check, orNext, firstOf}
+use Rattle.rules.specs.Numbers.{maxVars, maxClauses, maxEntries, maxChunk, maxHeld}
+use Rattle.rules.specs.Meaning.{varOf, LitUpTo}
 use Rattle.rules.specs.Reading.{isZero}
+use Rattle.rules.specs.Held.{isNoLiteral, heldRules}
 use Rattle.rules.specs.Answer.{Given, logLength, isEnded, isAbove, listRules, outOfLimits, isShort, refusalOf}
 use Rattle.rules.specs.RunRefusals.{InLimits, Lent, TooShort, short-status, short-hints, short-log, Listed}
-use Rattle.rules.proofs.ListLaws.{le-or-lt, never, or-cases, or-left, or-right}
+use Rattle.rules.proofs.ListLaws.{apart, le-or-lt, never, or-cases, or-left, or-right}
 
 -- ---- the element that passes and has n passing elements before it
 
@@ -205,7 +210,7 @@ module _ (g : Given) where
       → isEnded (g .entries) ≡ true → ltb maxClauses (count isZero (g .entries)) ≡ false → Listed g
   list-false w a b c = record { lent = w; entries-fit = ltb-false _ _ a; ended = b; clauses-fit = ltb-false _ _ c }
 
-  pub refusal-lent : Lent g → refusalOf g ≡ firstOf (listRules (g .entries) (g .vars))
+  pub refusal-lent : Lent g → refusalOf g ≡ firstOf (listRules (g .entries) (g .vars) ++ heldRules (g .held) (g .vars))
   unfolding refusalOf
   refusal-lent w = rw (limits-of (w .in-limits), room-of w)
 
@@ -231,3 +236,60 @@ module _ (es : List ℤ) (vars : ℕ) where
 
         pub list-first : any (isAbove vars) es ≡ false → firstOf (listRules es vars) ≡ none
         list-first e = rw (le-ltb maxEntries (length es) short, ended, le-ltb maxClauses (count isZero es) few, e)
+
+-- ---- the first of two lists of rules
+
+module _ {A : Type 0} where
+  pub first-front : (cs ds : List (Check A)) {a : A} → firstOf cs ≡ some a → firstOf (cs ++ ds) ≡ some a
+  first-front [] ds h = apart cc
+  first-front (c ∷ cs) ds {a} h = go (c .passes) h (λ e. first-front cs ds e)
+    where
+      go : (b : Bool) → orNext b (c .answer) (firstOf cs) ≡ some a → (firstOf cs ≡ some a → firstOf (cs ++ ds) ≡ some a)
+          → orNext b (c .answer) (firstOf (cs ++ ds)) ≡ some a
+      go true h ih = h
+      go false h ih = ih h
+
+  pub first-back : (cs ds : List (Check A)) → firstOf cs ≡ none → firstOf (cs ++ ds) ≡ firstOf ds
+  first-back [] ds h = refl
+  first-back (c ∷ cs) ds h = go (c .passes) h (λ e. first-back cs ds e)
+    where
+      go : (b : Bool) → orNext b (c .answer) (firstOf cs) ≡ none → (firstOf cs ≡ none → firstOf (cs ++ ds) ≡ firstOf ds)
+          → orNext b (c .answer) (firstOf (cs ++ ds)) ≡ firstOf ds
+      go true h ih = apart cc
+      go false h ih = ih h
+
+-- ---- the held literals' rules
+
+module _ (vars : ℕ) (l : ℤ) where
+  pub no-literal-sound : isNoLiteral vars l ≡ true → (varOf l ≡ 0) ⊎ (vars < varOf l)
+  no-literal-sound h = go (or-cases (eqb (varOf l) 0) (ltb vars (varOf l)) h)
+    where
+      go : (eqb (varOf l) 0 ≡ true) ⊎ (ltb vars (varOf l) ≡ true) → (varOf l ≡ 0) ⊎ (vars < varOf l)
+      go (inl e) = inl (eqb-true _ _ e)
+      go (inr e) = inr (ltb-true _ _ e)
+
+  pub no-literal-complete : (varOf l ≡ 0) ⊎ (vars < varOf l) → isNoLiteral vars l ≡ true
+  no-literal-complete (inl h) = rw (eq-eqb (varOf l) 0 h)
+  no-literal-complete (inr h) = rw (lt-ltb vars (varOf l) h) (or-true (eqb (varOf l) 0))
+
+  pub no-literal-false : isNoLiteral vars l ≡ false → LitUpTo vars l
+  no-literal-false h =
+      let none = eqb (varOf l) 0 in
+      let over = ltb vars (varOf l) in
+      let n : varOf l ≢ 0 = eqb-false _ _ (or-left none over h) in
+      record { some = omega arith; most = ltb-false _ _ (or-right none over h) }
+
+  pub no-literal-of : LitUpTo vars l → isNoLiteral vars l ≡ false
+  no-literal-of w = rw (ne-eqb (varOf l) 0 (omega (arith, w .some)), le-ltb vars (varOf l) (w .most))
+
+module _ (held : List ℤ) (vars : ℕ) where
+  pub many-held-first : maxHeld < length held → firstOf (heldRules held vars) ≡ some Refusal.ManyHeld
+  many-held-first h = rw (lt-ltb maxHeld (length held) h)
+
+  module _ (few : length held ≤ maxHeld) where
+    pub bad-held-first : any (isNoLiteral vars) held ≡ true
+        → firstOf (heldRules held vars) ≡ some (Refusal.BadLiteral (nthIndex (isNoLiteral vars) held 0))
+    bad-held-first e = rw (le-ltb maxHeld (length held) few, e)
+
+    pub held-first : any (isNoLiteral vars) held ≡ false → firstOf (heldRules held vars) ≡ none
+    held-first e = rw (le-ltb maxHeld (length held) few, e)

@@ -21,7 +21,6 @@ use Rattle.rules.specs.declared.Refusal.{Refusal}
 use Rattle.rules.specs.declared.RunAnswer.{RunAnswer}
 use Rattle.rules.specs.declared.Report.{Report}
 use Rattle.rules.specs.Lists.{joined}
-use Rattle.rules.specs.Meaning.{clauses}
 use Rattle.rules.specs.Run.{Row, run}
 use Rattle.rules.specs.Hints.{hintsOf}
 use Rattle.rules.specs.Answer.{Given, Buffers, buffers, logLength, refusalOf, taskOf, reportOf, statusAfter, hintsAfter, rowNumbers, logOfRows}
@@ -136,7 +135,7 @@ module _ (g : Given) (w : Accepted g) where
       omega (arith, length-hintsOf (taskOf g), length-drop (g .vars) (g .hints), w .listed .lent .hints-fit))
 
   -- where the buffer is of just the size
-  pub hintsAfter-le : length (g .hints) ≡ g .vars → (i : ℕ) → getD (hintsAfter g) i 0 ≤ length (clauses (g .entries))
+  pub hintsAfter-le : length (g .hints) ≡ g .vars → (i : ℕ) → getD (hintsAfter g) i 0 ≤ length (taskOf g .formula)
   hintsAfter-le n i = rw (hintsAfter-is, drop-of-length-le (g .hints) {i = g .vars} (omega arith), append-nil) (hintsOf-le (taskOf g) i)
 
   pub length-logAfter : length (logAfter g) ≡ length (g .log)

@@ -143,11 +143,13 @@ entry-order = (refl, refl, refl, refl)
 
 -- ---- runs
 
--- V, chunk limit, entries, the status bytes, hints and log numbers that are lent; then number and place, 0 and 0 where the run begins
+-- V, chunk limit, entries, held literals, the status bytes, hints and log numbers that are lent; then number and place, 0 and 0 where the
+-- run begins
 pub record RunEdge : Type 0 where
   pub vars : ℕ
   pub limit : ℕ
   pub entries : List ℤ
+  pub held : List ℤ
   pub status : ℕ
   pub hints : ℕ
   pub log : ℕ
@@ -164,6 +166,7 @@ runPasses e =
     (refusalOf (record {
       entries = e .entries;
       vars = e .vars;
+      held = e .held;
       budget = 100;
       limit = e .limit;
       status = replicate (e .status) 7;
@@ -175,11 +178,15 @@ runPasses e =
 
 -- the buffers
 abbrev lends : ℕ → ℕ → ℕ → ℕ → ℕ → List ℤ → ℕ → ℕ → RunEdge
-lends v l s h g es n p = record { vars = v; limit = l; entries = es; status = s; hints = h; log = g; number = n; place = p }
+lends v l s h g es n p = record { vars = v; limit = l; entries = es; held = []; status = s; hints = h; log = g; number = n; place = p }
 
 -- a list over one variable
 abbrev runs : List ℤ → ℕ → ℕ → RunEdge
 runs es n p = lends 1 2 1 1 12 es n p
+
+-- with literals held
+abbrev holds : List ℤ → List ℤ → ℕ → ℕ → RunEdge
+holds es held n p = record { vars = 1; limit = 2; entries = es; held = held; status = 1; hints = 1; log = 12; number = n; place = p }
 
 abbrev pub runEdges : List RunEdge
 runEdges =
@@ -217,6 +224,20 @@ runEdges =
     lends 1 2 1 1 11 (unit (pos 2)) 1 0 ∷
     runs (pos 2 ∷ []) 11 1 ∷
     runs (unit (pos 2) ++ replicate 1024 (pos 0)) 11 1025 ∷
+    -- 15: the 257th held literal; 13: 0, a variable above V and the least number of 32 bits, the first of them
+    holds [] (replicate 256 (pos 1)) 0 0 ∷
+    holds [] (replicate 257 (pos 1)) 15 256 ∷
+    holds [] (pos 1 ∷ pos 0 ∷ []) 13 1 ∷
+    holds [] (neg 1 ∷ pos 1 ∷ neg 2 ∷ pos 0 ∷ []) 13 2 ∷
+    holds [] (neg 2147483648 ∷ []) 13 0 ∷
+    -- they do not count against 1,024 clauses or 4,096 entries; both signs are no refusal
+    holds (replicate 1024 (pos 0)) (replicate 256 (pos 1)) 0 0 ∷
+    holds (clause (replicate 4095 (pos 1))) (replicate 256 (neg 1)) 0 0 ∷
+    holds (unit (pos 1)) (pos 1 ∷ neg 1 ∷ []) 0 0 ∷
+    -- 12 before 15, 15 before 13
+    holds (unit (pos 2)) (replicate 257 (pos 1)) 12 0 ∷
+    holds (unit (neg 2)) (pos 0 ∷ []) 12 0 ∷
+    holds [] (replicate 257 (pos 0)) 15 256 ∷
     -- within 11: too long, then not ended, then a zero too many
     runs (replicate 4097 (pos 0)) 11 4096 ∷
     runs (replicate 4097 (pos 1)) 11 4096 ∷

@@ -33,8 +33,11 @@ pub mod HintLaws
 pub mod RunTheorems
 pub mod CallTheorems
 pub mod HintTheorems
+pub mod HeldLaws
+pub mod HeldTheorems
 pub mod AnswerLaws
 pub mod RefusedRuns
+pub mod SetupTheorems
 pub mod BufferTheorems
 pub mod TextTheorems
 pub mod ReadList
@@ -45,6 +48,9 @@ pub mod TableTheorems
 pub mod Starred
 pub mod AnswerCases
 pub mod HintCases
+pub mod HeldRuns
+pub mod AnswerHeld
+pub mod SetupCases
 pub mod EdgeCases
 pub mod WhyLaws
 pub mod WhyTheorems

@@ -1,10 +1,10 @@
--- The laws of specs/Printed: its contract has exactly one solution, its run is never refused, and tables computed.
+-- The laws of specs/Printed: its contract has exactly one solution, what its run may be refused for, and tables computed.
 --
 --   shown             the example of docs/RULES.md, and a table of each other kind
 --   shown-stopped     a table after 21
 --   table-given       the budget and the chunk limit of the table program
 --   prints-exists, prints-unique     one result and one buffer satisfy the contract
---   table-runs        the run of the table program is never refused
+--   table-formed, table-runs     the run of the table program is refused for its held literals alone
 --
 -- Assumes nothing.
 use mathlib.Core.Path.{_≡_, refl, sym, _∙_}
@@ -13,9 +13,9 @@ use mathlib.Core.List.{List, [], _∷_, _++_}
 use Prim.Native.Nat.{ℕ}
 use native.Mathlib.Omega.{arith}
 use Prim.Native.String.{String}
-use lib.IntN.{ℤ}
+use lib.IntN.{ℤ, pos}
 use lib.Dec.{leb}
-use lib.ListN.{length, length-replicate}
+use lib.ListN.{length, replicate, length-replicate}
 use Rattle.rules.specs.declared.RunAnswer.{RunAnswer}
 use Rattle.rules.specs.Lists.{all, eqs}
 use Rattle.rules.specs.Text.{Sizes, linesOf, tokensFrom, numeral, headerOf, entryOf}
@@ -26,22 +26,29 @@ use Rattle.rules.specs.Search.{goOn, callOn}
 use Rattle.rules.specs.Plain.{decimal, decimalIn}
 use Rattle.rules.specs.Run.{chunkCall, chunksIn, chunks, firstCall, run}
 use Rattle.rules.specs.Hints.{hintsOf}
+use Rattle.rules.specs.Held.{Holdable}
 use Rattle.rules.specs.Answer.{logLength, refusalOf, reportOf, statusAfter, hintsAfter}
-use Rattle.rules.specs.RunRefusals.{Accepted}
+use Rattle.rules.specs.RunRefusals.{Formed, Accepted}
 use Rattle.rules.specs.Printed.{tableOfRun, tableGiven, tableOf, maxTable, countIfRoom, bytesIfRoom, Prints}
 use Rattle.rules.proofs.Quoted.{quoted}
+use Rattle.rules.proofs.Starred.{neg}
 use Rattle.rules.proofs.GrammarLaws.{accepted-sound}
-use Rattle.rules.proofs.TextTheorems.{dimacs-runs}
+use Rattle.rules.proofs.TextTheorems.{dimacs-formed}
 
 -- ---- the example of docs/RULES.md, and a table of each other kind, computed
 
--- a text, and the table that is printed for it, line by line
+-- a text and held literals, and the table that is printed for them, line by line
 pub record Shown : Type 0 where
   pub text : String
+  pub held : List ℤ
   pub table : List String
 
+abbrev showsWith : List ℤ → String → List String → Shown
+showsWith held text table = record { text = text; held = held; table = table }
+
+-- with no held literal
 abbrev shows : String → List String → Shown
-shows text table = record { text = text; table = table }
+shows = showsWith []
 
 abbrev pub linesIn : List String → List ℕ
 linesIn [] = []
@@ -67,10 +74,20 @@ tables =
     shows "p cnf 10 0"
     ("answer 0 calls 1 tries 10 forced 0 free 10 open 0\n" ∷
     "1 free\n" ∷ "2 free\n" ∷ "3 free\n" ∷ "4 free\n" ∷ "5 free\n" ∷ "6 free\n" ∷ "7 free\n" ∷ "8 free\n" ∷ "9 free\n" ∷ "10 free\n" ∷ []) ∷
+    -- held literals: the example with 2 held, which clause 3 holds now; with -1, and with both signs
+    showsWith (pos 2 ∷ []) "p cnf 2 2\n1 2 0 1 -2 0\n"
+    ("answer 0 calls 3 tries 0 forced 2 free 0 open 0\n" ∷ "1 forced on held by clause 2\n" ∷ "2 forced on held by clause 3\n" ∷ []) ∷
+    showsWith (neg 1 ∷ []) "p cnf 2 2\n1 2 0 1 -2 0\n" ("answer 20 calls 1 tries 0 forced 0 free 0 open 2\n" ∷ []) ∷
+    showsWith (pos 2 ∷ neg 2 ∷ []) "p cnf 2 0\n" ("answer 20 calls 1 tries 0 forced 0 free 0 open 2\n" ∷ []) ∷
+    -- a list that may not be held
+    showsWith (pos 2 ∷ neg 3 ∷ []) "p cnf 2 0\n" ("refused 13 place 1\n" ∷ []) ∷
+    showsWith (replicate 257 (pos 1)) "p cnf 2 0\n" ("refused 15 place 256\n" ∷ []) ∷
+    -- the text is refused before them
+    showsWith (pos 0 ∷ []) "p cnf 1\n" ("refused 3 place 0\n" ∷ []) ∷
     []
 
 abbrev pub passes : Shown → Bool
-passes s = eqs (tableOf (quoted (s .text))) (linesIn (s .table))
+passes s = eqs (tableOf (quoted (s .text)) (s .held)) (linesIn (s .table))
 
 pub shown : all passes tables ≡ true
 unfolding tableOf judge linesOf judgeLines headerOf numeral tokensFrom judgeTokens entryOf
@@ -86,27 +103,35 @@ unfolding decimal decimalIn
 shown-stopped = refl
 
 -- "with budget 1,000,000 and chunk limit 16"
-pub table-given : (s : Sizes) (es : List ℤ) → (tableGiven s es .budget ≡ 1000000) × (tableGiven s es .limit ≡ 16)
-table-given s es = (refl, refl)
+pub table-given : (s : Sizes) (es held : List ℤ) → (tableGiven s es held .budget ≡ 1000000) × (tableGiven s es held .limit ≡ 16)
+table-given s es held = (refl, refl)
 
 -- ---- the contract
 
-pub prints-exists : (text before : List ℕ)
-    → Prints text before (countIfRoom (leb maxTable (length before)) (tableOf text)) (bytesIfRoom (leb maxTable (length before)) (tableOf text) before)
-prints-exists text before = record { count-is = refl; after-is = refl }
+pub prints-exists : (text : List ℕ) (held : List ℤ) (before : List ℕ)
+    → Prints text held before (countIfRoom (leb maxTable (length before)) (tableOf text held))
+    (bytesIfRoom (leb maxTable (length before)) (tableOf text held) before)
+prints-exists text held before = record { count-is = refl; after-is = refl }
 
-pub prints-unique : {text before : List ℕ} {n n′ : ℕ} {b b′ : List ℕ} → Prints text before n b → Prints text before n′ b′ → (n ≡ n′) × (b ≡ b′)
+pub prints-unique : {text : List ℕ} {held : List ℤ} {before : List ℕ} {n n′ : ℕ} {b b′ : List ℕ}
+    → Prints text held before n b → Prints text held before n′ b′ → (n ≡ n′) × (b ≡ b′)
 prints-unique p q = (p .count-is ∙ sym (q .count-is), p .after-is ∙ sym (q .after-is))
 
 -- ---- the table program's run
 
-pub table-runs : (room : ℕ) (text : List ℕ) {s : Sizes} {es : List ℤ} → judge room text ≡ accepted s es → Accepted (tableGiven s es)
-table-runs room text {s} {es} e =
+pub table-formed : (room : ℕ) (text : List ℕ) {s : Sizes} {es : List ℤ} → judge room text ≡ accepted s es → (held : List ℤ)
+    → Formed (tableGiven s es held)
+table-formed room text {s} {es} e held =
     let d : Dimacs text (s .vars) (s .clauses) es = accepted-sound room text e in
-    dimacs-runs (tableGiven s es) d
+    dimacs-formed (tableGiven s es held) d
     (record {
       in-limits = record { vars-fit = d .vars-fit; limit-some = omega arith; limit-fits = omega arith };
       status-fits = omega (arith, length-replicate {A = ℕ} (s .vars) 0);
       hints-fit = omega (arith, length-replicate {A = ℕ} (s .vars) 0);
       log-fits = omega (arith, length-replicate {A = ℕ} (logLength (s .vars)) 0);
     })
+
+pub table-runs : (room : ℕ) (text : List ℕ) {s : Sizes} {es : List ℤ} → judge room text ≡ accepted s es → {held : List ℤ}
+    → Holdable (s .vars) held → Accepted (tableGiven s es held)
+table-runs room text e {held} h =
+    let f = table-formed room text e held in record { listed = f .listed; up-to = f .up-to; holdable = h }

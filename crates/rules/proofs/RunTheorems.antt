@@ -5,6 +5,9 @@
 --   run-forced            a literal marked forced is in all models, and there is one
 --   run-free              a variable marked free has a witness against the run's first model
 --   settled-forced, settled-free     and back, in a settled run
+--   free-of-run           a witness shows that models differ
+--   indexOf-lt            the index of a literal up to n
+--   settled-model         a settled run has found a model
 --   settled-none-open     a settled run leaves no variable open
 --   settled-same          budget and chunk limit never change a settled status
 --   no-model-exactly      20 is answered exactly if there is no model, unless stopped
@@ -13,7 +16,7 @@
 -- Assumes nothing.
 use mathlib.Core.Path.{_≡_, refl, sym, _∙_, ap}
 use mathlib.Core.Logic.{_≢_, _⊎_, inl, inr, _↔_}
-use mathlib.Core.List.{List, [], _∷_, _++_}
+use mathlib.Core.List.{List, [], _∷_, _++_, List·Memᴰ·head}
 use Prim.Native.Nat.{ℕ, zero, suc, _≤_, _<_}
 use native.Mathlib.Omega.{arith}
 use lib.IntN.{ℤ, pos, negsuc}
@@ -66,6 +69,9 @@ free-of-witness {first = first} x are (by-model m h d) =
     record { one = m; two = first; one-is = are m h; two-is = x; differ = d }
 free-of-witness {first = first} {i = i} x are (by-flip m h y d) =
     record { one = flipped m i; two = first; one-is = y; two-is = x; differ = d }
+
+pub free-of-run : {n : ℕ} {F : List Clause} {models : List Values} {i : ℕ} → WitnessOf n F models i → Free n F i
+free-of-run w = free-of-witness (w .each (w .first) (rw (w .models-are) (List·Memᴰ·head refl))) (w .each) (w .witness)
 
 -- a literal in all models, and models that differ on its variable
 forced-not-free : {n : ℕ} {F : List Clause} {l : ℤ} → Forced n F l → Free n F (indexOf l) → ⊥
@@ -188,6 +194,10 @@ module _ (k : Task) (limit : 1 ≤ k .limit) where
       go (first-stopped t e) z = apart cc
       go (settled r o) z = (known r, o)
       go (next-stopped t r o e) z = apart cc
+
+  -- a settled run has found a model
+  pub settled-model : run k .answer ≡ RunAnswer.Settled → (m : Values) × Model (k .vars) (k .formula) m
+  settled-model a = (run k .progress .first, first-model-is (settled-known a .0))
 
   -- a settled run leaves no variable open
   pub settled-none-open : run k .answer ≡ RunAnswer.Settled → (i : ℕ) → statusAt (run k .progress .statuses) i ≢ 0

@@ -58,6 +58,7 @@ given c =
     record {
       entries = c .entries;
       vars = c .vars;
+      held = [];
       budget = c .budget;
       limit = c .limit;
       status = replicate (c .vars) 7;

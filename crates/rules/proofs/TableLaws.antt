@@ -7,30 +7,35 @@
 use mathlib.Core.Path.{_≡_, refl, _∙_, ap}
 use mathlib.Core.Logic.{_⊎_, inl, inr}
 use mathlib.Core.List.{List, [], _∷_, _++_}
+use mathlib.Core.Option.{Option, none, some}
 use Prim.Native.Nat.{ℕ, zero, suc, pred, _+_, _-_, _*_, _≤_}
 use native.Mathlib.Omega.{arith}
+use lib.IntN.{ℤ, pos}
 use lib.ListN.{length, getD, length-append, length-replicate}
 use Rattle.rules.specs.declared.ReadAnswer.{ReadAnswer}
 use Rattle.rules.specs.declared.Refusal.{Refusal}
 use Rattle.rules.specs.declared.RunAnswer.{RunAnswer}
 use Rattle.rules.specs.declared.Report.{Report}
-use Rattle.rules.specs.Numbers.{maxText, maxVars, maxEntries, readNumber, readPlace, refusalNumber, runNumber}
+use Rattle.rules.specs.Numbers.{maxText, maxVars, maxEntries, readNumber, readPlace, refusalNumber, refusalPlace, runNumber}
+use Rattle.rules.specs.Text.{Sizes}
 use Rattle.rules.specs.Reading.{Judged, accepted, refused, judge}
+use Rattle.rules.specs.Meaning.{clauses}
 use Rattle.rules.specs.Run.{run}
-use Rattle.rules.specs.Answer.{Given, taskOf, isFree, isForced, reportOf, statusAfter, hintsAfter}
-use Rattle.rules.specs.RunRefusals.{Accepted}
-use Rattle.rules.specs.Printed.{refusedLine, answerLine, statusWords, statusLines, tableBy}
+use Rattle.rules.specs.Answer.{Given, refusalOf, taskOf, isFree, isForced, reportIf, reportOf, statusAfter, hintsAfter}
+use Rattle.rules.specs.RunRefusals.{Accepted, RunRefuses, bad-limits, short-buffer, list-long, not-ended, zero-over, entry-over-vars}
+use Rattle.rules.specs.RunRefusals.{many-held, bad-literal}
+use Rattle.rules.specs.Printed.{refusedLine, answerLine, statusWords, statusLines, tableBy, tableOfRun}
 use Rattle.rules.specs.Printed.{tableBudget, tableGiven, tableOfJudged, tableOf, maxTable}
 use Rattle.rules.proofs.ListLaws.{count-le}
 use Rattle.rules.proofs.ClauseLaws.{length-clauses}
+use Rattle.rules.proofs.HeldLaws.{length-withHeld}
 use Rattle.rules.proofs.DecimalLaws.{decimal-most}
 use Rattle.rules.proofs.RefusalLaws.{refusal-sound}
 use Rattle.rules.proofs.PlaceLaws.{refuses-place}
 use Rattle.rules.proofs.RunTheorems.{run-answer, run-statuses}
 use Rattle.rules.proofs.CallTheorems.{run-calls, run-tries}
-use Rattle.rules.proofs.RefusedRuns.{run-accepted}
+use Rattle.rules.proofs.RefusedRuns.{run-refused, run-accepted}
 use Rattle.rules.proofs.BufferTheorems.{length-statusAfter, hintsAfter-le}
-use Rattle.rules.proofs.PrintedLaws.{table-runs}
 
 -- ---- lines
 
@@ -52,6 +57,7 @@ refusalNumber-le Refusal.BadLimits = omega arith
 refusalNumber-le (Refusal.BadList at) = omega arith
 refusalNumber-le (Refusal.EntryOverVars at) = omega arith
 refusalNumber-le (Refusal.BadLiteral at) = omega arith
+refusalNumber-le Refusal.ManyHeld = omega arith
 
 runNumber-le : (a : RunAnswer) → runNumber a ≤ 21
 runNumber-le RunAnswer.Settled = omega arith
@@ -145,17 +151,50 @@ run-bounded g w b l n-hints =
       forced-fit = omega (arith, count-le isForced (run (taskOf g) .progress .statuses), n);
       free-fit = omega (arith, count-le isFree (run (taskOf g) .progress .statuses), n);
       lines = length-statusAfter g w ∙ l;
-      small-hints = λ i. omega (arith, hintsAfter-le g w n-hints i, length-clauses (g .entries), w .listed .clauses-fit);
+      small-hints =
+          λ i. omega (
+            arith,
+            hintsAfter-le g w n-hints i,
+            length-withHeld (clauses (g .entries)) (g .held),
+            length-clauses (g .entries),
+            w .listed .clauses-fit,
+            w .holdable .few,
+          );
       answer-is = run-answer (taskOf g) limit;
     })
 
-pub length-tableOf : (text : List ℕ) → length (tableOf text) ≤ maxTable
+-- the place of a refusal is an index of a list, or its length
+refuses-index : {g : Given} {a : Refusal} → RunRefuses g a → refusalPlace a ≤ maxText
+refuses-index (bad-limits h) = omega arith
+refuses-index (short-buffer w h) = omega arith
+refuses-index (list-long w h) = omega arith
+refuses-index (not-ended w s front l q z) = omega arith
+refuses-index (zero-over w s d front back q c) = omega (arith, ap length q, length-append front (pos 0 ∷ back))
+refuses-index (entry-over-vars w front l back q k h) = omega (arith, w .entries-fit, ap length q, length-append front (l ∷ back))
+refuses-index (many-held w h) = omega arith
+refuses-index (bad-literal w s front l back q k h) = omega (arith, ap length q, length-append front (l ∷ back))
+
+length-refused : (g : Given) {a : Refusal} → refusalOf g ≡ some a
+    → length (tableOfRun (g .vars) (reportOf g) (statusAfter g) (hintsAfter g)) ≤ maxTable
+unfolding reportOf
+length-refused g {a} e =
+    rw (ap (λ (o : Option Refusal). tableOfRun (g .vars) (reportIf o (taskOf g)) (statusAfter g) (hintsAfter g)) e)
+    (omega (
+      arith,
+      length-refusedLine (refusalNumber a) (refusalPlace a) (omega (arith, refusalNumber-le a)) (refuses-index (run-refused g a .0 e)),
+    ))
+
+pub length-tableOf : (text : List ℕ) (held : List ℤ) → length (tableOf text held) ≤ maxTable
 unfolding tableOf
-length-tableOf text = go (judge maxEntries text) refl
+length-tableOf text held = go (judge maxEntries text) refl
   where
-    go : (j : Judged) → judge maxEntries text ≡ j → length (tableOfJudged j) ≤ maxTable
+    runs : (s : Sizes) (es : List ℤ) (o : Option Refusal) → refusalOf (tableGiven s es held) ≡ o → length (tableOfJudged (accepted s es) held) ≤ maxTable
+    runs s es (some a) e = length-refused (tableGiven s es held) e
+    runs s es none e =
+        length-tableBy (run-bounded (tableGiven s es held) (run-accepted (tableGiven s es held) .0 e) (omega arith)
+        (length-replicate {A = ℕ} (s .vars) 0) (length-replicate {A = ℕ} (s .vars) 0))
+
+    go : (j : Judged) → judge maxEntries text ≡ j → length (tableOfJudged j held) ≤ maxTable
     go (refused a) e =
         omega (arith, length-refusedLine (readNumber a) (readPlace a) (omega (arith, readNumber-le a)) (refuses-place (refusal-sound maxEntries text e)))
-    go (accepted s es) e =
-        length-tableBy (run-bounded (tableGiven s es) (table-runs maxEntries text e) (omega arith) (length-replicate {A = ℕ} (s .vars) 0)
-        (length-replicate {A = ℕ} (s .vars) 0))
+    go (accepted s es) e = runs s es (refusalOf (tableGiven s es held)) refl

@@ -1,7 +1,7 @@
 -- The printed table says what models say (docs/RULES.md, "The printed table"): for every text of the grammar it is the table of the
 -- run on its entries, its first line says that run's answer, and the line of each variable that variable's status.
 --
---   table-refused     a refused text
+--   table-refused, table-many-held, table-bad-held     a refused text, and held literals that are refused
 --   table-of-run      the table is that of the run with budget 1,000,000 and chunk limit 16
 --   says-answer       the answer that the first line says
 --   line-says         the words of a variable's line say its status
@@ -13,7 +13,7 @@ use mathlib.Core.Path.{_≡_, refl, sym, _∙_, ap, ap₂}
 use mathlib.Core.Logic.{_⊎_, inl, inr, _↔_}
 use mathlib.Core.Bool.{false, cond}
 use mathlib.Core.List.{List, [], _∷_, _++_, append-assoc, append-nil, append-cancel-left}
-use mathlib.Core.Option.{none}
+use mathlib.Core.Option.{Option, none}
 use Prim.Native.Nat.{ℕ, zero, suc, pred, _+_, _-_, _≤_, _<_}
 use native.Mathlib.Omega.{arith}
 use native.Mathlib.Nat.{add-zero, add-suc, suc-add}
@@ -22,20 +22,23 @@ use lib.IntN.{ℤ, pos, negsuc}
 use lib.ListN.{length, getD, drop, replicate, length-replicate, drop-of-length-le}
 use borrow.Author.Tests.{ne-eqb}
 use Rattle.rules.specs.declared.ReadAnswer.{ReadAnswer}
+use Rattle.rules.specs.declared.Refusal.{Refusal}
 use Rattle.rules.specs.declared.RunAnswer.{RunAnswer}
 use Rattle.rules.specs.declared.Report.{Report}
-use Rattle.rules.specs.Lists.{any, cut, joined}
-use Rattle.rules.specs.Numbers.{maxEntries, readNumber, readPlace, runNumber}
+use Rattle.rules.specs.Lists.{In, any, cut, joined}
+use Rattle.rules.specs.Numbers.{maxEntries, maxHeld, readNumber, readPlace, refusalNumber, refusalPlace, runNumber}
 use Rattle.rules.specs.Text.{isLf, isDigit, Sizes}
-use Rattle.rules.specs.Reading.{accepted, judge}
+use Rattle.rules.specs.Reading.{Judged, accepted, judge}
 use Rattle.rules.specs.Grammar.{Dimacs}
 use Rattle.rules.specs.Refusals.{Refuses}
-use Rattle.rules.specs.Meaning.{clauses}
+use Rattle.rules.specs.Meaning.{varOf, LitUpTo, clauses}
 use Rattle.rules.specs.Models.{NoModel, Forced, Free}
 use Rattle.rules.specs.Plain.{decimal}
 use Rattle.rules.specs.Run.{Task, Ended, statusAt, run}
 use Rattle.rules.specs.Hints.{hintsOf}
-use Rattle.rules.specs.Answer.{refusalOf, reportOfRun, reportOf, statusAfter, hintsAfter}
+use Rattle.rules.specs.Held.{withHeld, Holdable}
+use Rattle.rules.specs.Answer.{refusalOf, taskOf, reportOfRun, reportIf, reportOf, statusAfter, hintsAfter}
+use Rattle.rules.specs.RunRefusals.{Formed, RunRefuses, many-held, bad-literal}
 use Rattle.rules.specs.Printed.{answerWord, callsWord, triesWord, forcedWord, freeWord, openWord, onWord, offWord, heldWord}
 use Rattle.rules.specs.Printed.{refusedLine, answerLine, statusWords, statusLines, tableBy, tableOfRun, tableGiven, tableOfJudged, tableOf}
 use Rattle.rules.specs.Tables.{lineAt, SaysAnswer, tableTask}
@@ -45,37 +48,68 @@ use Rattle.rules.proofs.TokenLaws.{any-of-all, digit-above}
 use Rattle.rules.proofs.GrammarLaws.{accepted-complete}
 use Rattle.rules.proofs.RefusalLaws.{refusal-complete}
 use Rattle.rules.proofs.DecimalLaws.{decimal-digits, decimal-inj}
-use Rattle.rules.proofs.RefusedRuns.{run-accepted}
+use Rattle.rules.proofs.RefusedRuns.{run-refused, run-accepted}
 use Rattle.rules.proofs.RunTheorems.{run-answer, run-statuses, settled-forced, settled-free, no-model-exactly}
-use Rattle.rules.proofs.PrintedLaws.{table-runs}
+use Rattle.rules.proofs.PrintedLaws.{table-formed, table-runs}
 
 -- ---- the table of a text
 
-pub table-refused : (text : List ℕ) (a : ReadAnswer) → Refuses maxEntries text a → tableOf text ≡ refusedLine (readNumber a) (readPlace a)
+pub table-refused : (text : List ℕ) (held : List ℤ) (a : ReadAnswer) → Refuses maxEntries text a
+    → tableOf text held ≡ refusedLine (readNumber a) (readPlace a)
 unfolding tableOf
-table-refused text a r = ap tableOfJudged (refusal-complete maxEntries text r)
+table-refused text held a r = ap (λ (j : Judged). tableOfJudged j held) (refusal-complete maxEntries text r)
+
+-- the judgement of a text of the grammar
+sizes : ℕ → ℕ → Sizes
+sizes vars n = record { vars = vars; clauses = n }
+
+judged : {text : List ℕ} {vars n : ℕ} {es : List ℤ} → Dimacs text vars n es → judge maxEntries text ≡ accepted (sizes vars n) es
+unfolding sizes
+judged {text} d = accepted-complete maxEntries text (omega arith) d
+
+-- what the run of an accepted text is refused for
+pub table-run-refused : {text : List ℕ} {vars n : ℕ} {es : List ℤ} → Dimacs text vars n es → (held : List ℤ) (a : Refusal)
+    → RunRefuses (tableGiven (record { vars = vars; clauses = n }) es held) a → tableOf text held ≡ refusedLine (refusalNumber a) (refusalPlace a)
+unfolding tableOf reportOf sizes
+table-run-refused {text} {vars} {n} {es} d held a r =
+    let g = tableGiven (record { vars = vars; clauses = n }) es held in
+    ap (λ (j : Judged). tableOfJudged j held) (judged d) ∙
+    ap (λ (o : Option Refusal). tableOfRun vars (reportIf o (taskOf g)) (statusAfter g) (hintsAfter g)) (run-refused g a .1 r)
+
+module _ {text : List ℕ} {vars n : ℕ} {es : List ℤ} (d : Dimacs text vars n es) (held : List ℤ) where
+  formed : Formed (tableGiven (record { vars = vars; clauses = n }) es held)
+  unfolding sizes
+  formed = table-formed maxEntries text (judged d) held
+
+  -- more than 256 held literals
+  pub table-many-held : maxHeld < length held → tableOf text held ≡ refusedLine 15 256
+  table-many-held h = table-run-refused d held Refusal.ManyHeld (many-held formed h)
+
+  -- the first held literal that is 0 or above V
+  pub table-bad-held : length held ≤ maxHeld → (front : List ℤ) (l : ℤ) (back : List ℤ) → held ≡ front ++ l ∷ back
+      → ((k : ℤ) → In k front → LitUpTo vars k) → (varOf l ≡ 0) ⊎ (vars < varOf l) → tableOf text held ≡ refusedLine 13 (length front)
+  table-bad-held s front l back q k h = table-run-refused d held (Refusal.BadLiteral (length front)) (bad-literal formed s front l back q k h)
 
 -- the report, the statuses and the hints of a run
 abbrev tableOfEnd : Task → Ended → List ℕ
 tableOfEnd k e = tableOfRun (k .vars) (reportOfRun e) (e .progress .statuses) (hintsOf k)
 
-pub table-of-run : {text : List ℕ} {vars n : ℕ} {es : List ℤ} → Dimacs text vars n es
-    → tableOf text ≡ tableOfRun vars (reportOfRun (run (tableTask vars es))) (run (tableTask vars es) .progress .statuses) (hintsOf (tableTask vars es))
-unfolding tableOf reportOf statusAfter hintsAfter
-table-of-run {text} {vars} {n} {es} d =
-    ap tableOfJudged q ∙ rw ok (ap₂ (tableOfRun vars (reportOfRun e)) (whole (e .progress .statuses)) (whole (hintsOf (tableTask vars es))))
+pub table-of-run : {text : List ℕ} {vars n : ℕ} {es : List ℤ} → Dimacs text vars n es → {held : List ℤ} → Holdable vars held
+    → tableOf text held
+    ≡ tableOfRun vars (reportOfRun (run (tableTask vars es held))) (run (tableTask vars es held) .progress .statuses) (hintsOf (tableTask vars es held))
+unfolding tableOf reportOf statusAfter hintsAfter sizes
+table-of-run {text} {vars} {n} {es} d {held} h =
+    ap (λ (j : Judged). tableOfJudged j held) (judged d) ∙
+    rw ok (ap₂ (tableOfRun vars (reportOfRun e)) (whole (e .progress .statuses)) (whole (hintsOf (tableTask vars es held))))
   where
     s : Sizes
     s = record { vars = vars; clauses = n }
 
     e : Ended
-    e = run (tableTask vars es)
+    e = run (tableTask vars es held)
 
-    q : judge maxEntries text ≡ accepted s es
-    q = accepted-complete maxEntries text (omega arith) d
-
-    ok : refusalOf (tableGiven s es) ≡ none
-    ok = run-accepted (tableGiven s es) .1 (table-runs maxEntries text q)
+    ok : refusalOf (tableGiven s es held) ≡ none
+    ok = run-accepted (tableGiven s es held) .1 (table-runs maxEntries text (judged d) h)
 
     whole : (front : List ℕ) → front ++ drop vars (replicate vars 0) ≡ front
     whole front =
@@ -289,53 +323,53 @@ module _ (k : Task) (limit : 1 ≤ k .limit) where
 
 -- ---- what it says of models, for every text of the grammar
 
-module _ {text : List ℕ} {vars n : ℕ} {es : List ℤ} (d : Dimacs text vars n es) where
+module _ {text : List ℕ} {vars n : ℕ} {es : List ℤ} (d : Dimacs text vars n es) {held : List ℤ} (h : Holdable vars held) where
   abbrev k : Task
-  k = tableTask vars es
+  k = tableTask vars es held
 
   some-limit : 1 ≤ 16
   some-limit = omega arith
 
-  table-is : tableOf text ≡ table k some-limit
+  table-is : tableOf text held ≡ table k some-limit
   unfolding table
-  table-is = table-of-run d
+  table-is = table-of-run d h
 
-  line-of : SaysAnswer 0 (tableOf text) → (i : ℕ) → i < vars → (s : ℕ) → s ≤ 3
-      → (lineAt (tableOf text) (suc i) ≡ decimal (suc i) ++ statusWords s (getD (hintsOf k) i 0)) ↔ (statusAt (run k .progress .statuses) i ≡ s)
+  line-of : SaysAnswer 0 (tableOf text held) → (i : ℕ) → i < vars → (s : ℕ) → s ≤ 3
+      → (lineAt (tableOf text held) (suc i) ≡ decimal (suc i) ++ statusWords s (getD (hintsOf k) i 0)) ↔ (statusAt (run k .progress .statuses) i ≡ s)
   unfolding ss
-  line-of w i h s small = rw table-is (line k some-limit (rw table-is at w) i h s small)
+  line-of w i l s small = rw table-is (line k some-limit (rw table-is at w) i l s small)
 
-  settled : SaysAnswer 0 (tableOf text) → run k .answer ≡ RunAnswer.Settled
+  settled : SaysAnswer 0 (tableOf text held) → run k .answer ≡ RunAnswer.Settled
   settled w = says-settled k some-limit .0 (rw table-is at w)
 
   -- the line of a variable says `forced on`, and which clause holds it, exactly if a model exists and all models make it true
-  pub table-forced-on : SaysAnswer 0 (tableOf text) → (i : ℕ) → i < vars
-      → (lineAt (tableOf text) (suc i) ≡ decimal (suc i) ++ (forcedWord ++ onWord ++ heldWord ++ decimal (getD (hintsOf k) i 0)))
-      ↔ Forced vars (clauses es) (pos (suc i))
-  table-forced-on w i h =
-      let says = line-of w i h 2 (omega arith) in
+  pub table-forced-on : SaysAnswer 0 (tableOf text held) → (i : ℕ) → i < vars
+      → (lineAt (tableOf text held) (suc i) ≡ decimal (suc i) ++ (forcedWord ++ onWord ++ heldWord ++ decimal (getD (hintsOf k) i 0)))
+      ↔ Forced vars (withHeld (clauses es) held) (pos (suc i))
+  table-forced-on w i l =
+      let says = line-of w i l 2 (omega arith) in
       let means = settled-forced k some-limit (settled w) (pos (suc i)) (record { some = omega arith; most = omega arith }) in
       (λ q. means .0 (says .0 q), λ f. says .1 (means .1 f))
 
   -- `forced off` exactly if a model exists and all models make it false
-  pub table-forced-off : SaysAnswer 0 (tableOf text) → (i : ℕ) → i < vars
-      → (lineAt (tableOf text) (suc i) ≡ decimal (suc i) ++ (forcedWord ++ offWord ++ heldWord ++ decimal (getD (hintsOf k) i 0)))
-      ↔ Forced vars (clauses es) (negsuc i)
-  table-forced-off w i h =
-      let says = line-of w i h 3 (omega arith) in
+  pub table-forced-off : SaysAnswer 0 (tableOf text held) → (i : ℕ) → i < vars
+      → (lineAt (tableOf text held) (suc i) ≡ decimal (suc i) ++ (forcedWord ++ offWord ++ heldWord ++ decimal (getD (hintsOf k) i 0)))
+      ↔ Forced vars (withHeld (clauses es) held) (negsuc i)
+  table-forced-off w i l =
+      let says = line-of w i l 3 (omega arith) in
       let means = settled-forced k some-limit (settled w) (negsuc i) (record { some = omega arith; most = omega arith }) in
       (λ q. means .0 (says .0 q), λ f. says .1 (means .1 f))
 
   -- `free` exactly if two models differ on it
-  pub table-free : SaysAnswer 0 (tableOf text) → (i : ℕ) → i < vars
-      → (lineAt (tableOf text) (suc i) ≡ decimal (suc i) ++ freeWord) ↔ Free vars (clauses es) i
-  table-free w i h =
-      let says = line-of w i h 1 (omega arith) in
-      let means = settled-free k some-limit (settled w) i h in
+  pub table-free : SaysAnswer 0 (tableOf text held) → (i : ℕ) → i < vars
+      → (lineAt (tableOf text held) (suc i) ≡ decimal (suc i) ++ freeWord) ↔ Free vars (withHeld (clauses es) held) i
+  table-free w i l =
+      let says = line-of w i l 1 (omega arith) in
+      let means = settled-free k some-limit (settled w) i l in
       (λ q. means .0 (says .0 q), λ f. says .1 (means .1 f))
 
   -- unless the first line says 21, it says 20 exactly if there is no model
-  pub table-no-model : (SaysAnswer 21 (tableOf text) → ⊥) → SaysAnswer 20 (tableOf text) ↔ NoModel vars (clauses es)
+  pub table-no-model : (SaysAnswer 21 (tableOf text held) → ⊥) → SaysAnswer 20 (tableOf text held) ↔ NoModel vars (withHeld (clauses es) held)
   table-no-model ne =
       let (settles, says-none, stops) = says-settled k some-limit in
       let means = no-model-exactly k some-limit (λ q. ne (rw table-is (stops q))) in

@@ -2,7 +2,7 @@
 -- read from a text.
 --
 --   round-trip        printed plainly and read, a formula comes back as itself
---   dimacs-runs       the entries of a DIMACS text are accepted by a run that has room
+--   dimacs-formed, dimacs-runs     the entries of a DIMACS text are accepted by a run that has room, with literals that may be held
 --
 -- Assumes nothing.
 use mathlib.Core.Path.{_≡_, refl}
@@ -18,8 +18,9 @@ use Rattle.rules.specs.Meaning.{Clause, clauses}
 use Rattle.rules.specs.Reading.{readingOf, filled, entriesAfter}
 use Rattle.rules.specs.Grammar.{ClausesOf, no-clause, clause, Dimacs}
 use Rattle.rules.specs.Plain.{plain, entriesOf, Within}
+use Rattle.rules.specs.Held.{Holdable}
 use Rattle.rules.specs.Answer.{Given, isEnded}
-use Rattle.rules.specs.RunRefusals.{Lent, Accepted}
+use Rattle.rules.specs.RunRefusals.{Lent, Formed, Accepted}
 use Rattle.rules.proofs.GrammarLaws.{count-clausesOf}
 use Rattle.rules.proofs.PlainLaws.{plain-dimacs, clauses-entriesOf, no-zero-of-within}
 use Rattle.rules.proofs.ReadingTheorems.{read-accepts}
@@ -43,8 +44,9 @@ isEnded-of-clausesOf : {n : ℕ} {es : List ℤ} → ClausesOf n es → isEnded 
 isEnded-of-clausesOf no-clause = refl
 isEnded-of-clausesOf (clause cl {es = es} z c) = isEnded-behind cl es (isEnded-of-clausesOf c)
 
-pub dimacs-runs : {text : List ℕ} {n : ℕ} (g : Given) → Dimacs text (g .vars) n (g .entries) → Lent g → Accepted g
-dimacs-runs g d w =
+-- the entries of a text are never refused with 11 or 12
+pub dimacs-formed : {text : List ℕ} {n : ℕ} (g : Given) → Dimacs text (g .vars) n (g .entries) → Lent g → Formed g
+dimacs-formed g d w =
     record {
       listed =
           record {
@@ -56,3 +58,6 @@ dimacs-runs g d w =
           };
       up-to = d .up-to;
     }
+
+pub dimacs-runs : {text : List ℕ} {n : ℕ} (g : Given) → Dimacs text (g .vars) n (g .entries) → Lent g → Holdable (g .vars) (g .held) → Accepted g
+dimacs-runs g d w h = let f = dimacs-formed g d w in record { listed = f .listed; up-to = f .up-to; holdable = h }

@@ -17,13 +17,13 @@ use Rattle.rules.specs.declared.WhyAnswer.{WhyAnswer}
 use Rattle.rules.specs.declared.WhyReport.{WhyReport}
 use Rattle.rules.specs.declared.ClauseState.the-variants.{False}
 use Rattle.rules.specs.Lists.{In, all, count}
-use Rattle.rules.specs.Numbers.{maxText, maxEntries, readNumber, readPlace}
+use Rattle.rules.specs.Numbers.{maxText, maxEntries, maxHeld, readNumber, readPlace}
 use Rattle.rules.specs.Text.{Sizes}
 use Rattle.rules.specs.Reading.{readingOf, filled, entriesAfter, Reads}
 use Rattle.rules.specs.Grammar.{NoLf, TokenEnd, WithHeader, Dimacs}
 use Rattle.rules.specs.Refusals.{Refuses}
 use Rattle.rules.specs.Plain.{decimal, plain, entriesOf, Within}
-use Rattle.rules.specs.Meaning.{Clause, Values, varOf, indexOf, clauses, satisfies, LitUpTo, Proper}
+use Rattle.rules.specs.Meaning.{Clause, Values, varOf, negated, indexOf, clauses, satisfies, LitUpTo, Model, Proper, bitOf}
 use Rattle.rules.specs.Closing.{stateOf, under-way, round, again, closing, clash, closed}
 use Rattle.rules.specs.Visits.{Visits, Quiet}
 use Rattle.rules.specs.Search.{model, no-model, triesOf, onClosed, callOn}
@@ -34,12 +34,15 @@ use Rattle.rules.specs.Run.{firstCall, run}
 use Rattle.rules.specs.Trace.{Takes, Reached, Ends, Leaves, withLimits}
 use Rattle.rules.specs.Hints.{hintsOf, HeldBy, FirstFalse}
 use Rattle.rules.specs.Answer.{Given, Buffers, logLength, refusalOf, taskOf, reportOfRun, reportOf, statusAfter, hintsAfter, logOfRows, logAfter}
-use Rattle.rules.specs.Answer.{isFree, isForced, Runs}
+use Rattle.rules.specs.Answer.{isFree, isForced, isEnded, plainRefusal, plainTask, Runs}
+use Rattle.rules.specs.Held.{withHeld, listWith, holding, Holdable, HeldModel}
 use Rattle.rules.specs.RunRefusals.{Accepted, RunRefuses}
+use Rattle.rules.specs.Setup.{SetupGiven, setupGiven, setupRefusal, setupRun, setupCall, setupAnswer, setupReport, setupValues}
+use Rattle.rules.specs.Setup.{setupReportOf, setupValuesAfter, SetsUp, FirstSetup}
 use Rattle.rules.specs.Log.{LogOf}
 use Rattle.rules.specs.Printed.{forcedWord, freeWord, onWord, offWord, heldWord, refusedLine, tableOfRun, tableOf, maxTable, Prints}
 use Rattle.rules.specs.Tables.{lineAt, SaysAnswer, tableTask}
-use Rattle.rules.specs.Why.{Question, marked, bitOf, why, FalseModel, WhyGiven, whyRefusal, Explains, WhyAccepted, WhyRefuses}
+use Rattle.rules.specs.Why.{Question, marked, why, FalseModel, WhyGiven, whyRefusal, Explains, WhyAccepted, WhyRefuses}
 use Rattle.rules.specs.WhyPrinted.{whyAsked, whyTextOf, maxWhy, PrintsWhy}
 use Rattle.rules.proofs.ClosingLaws as closing-laws
 use Rattle.rules.proofs.ClosingOrder as closing-order
@@ -66,6 +69,12 @@ use Rattle.rules.proofs.WhyCases as reason-cases
 use Rattle.rules.proofs.WhyText as reason-text
 use Rattle.rules.proofs.HintTheorems as hints
 use Rattle.rules.proofs.HintCases as held-cases
+use Rattle.rules.proofs.HeldLaws as held-laws
+use Rattle.rules.proofs.HeldTheorems as held-theorems
+use Rattle.rules.proofs.HeldRuns as held-runs
+use Rattle.rules.proofs.SetupTheorems as setups
+use Rattle.rules.proofs.SetupCases as setup-runs
+use Rattle.rules.proofs.AnswerHeld as chosen-cases
 
 -- ---- the reader
 
@@ -286,42 +295,129 @@ module _ (k : Task) (limit : 1 ≤ k .limit) where
       → (run k .progress .statuses ≡ replicate (k .vars) 0) × (length (run k .progress .rows) ≡ 1)
   no-model-table = call-theorems.no-model-table k limit
 
+-- ---- choices already made
+
+-- A model of the formula with the held literals is a model of the formula in which every held literal is true, and back.
+pub held-models : (n : ℕ) (F : List Clause) (held : List ℤ) (m : Values) → Model n (withHeld F held) m ↔ HeldModel n F held m
+held-models = held-theorems.held-models
+
+-- Of two runs on one formula where the second holds more: every literal forced in the first is forced in the second, unless the second is
+-- stopped or finds no model.
+pub held-more : (k : Task) (held more : List ℤ) (budget limit : ℕ) → 1 ≤ k .limit → 1 ≤ limit
+    → run (withLimits (holding k (held ++ more)) budget limit) .answer ≢ RunAnswer.Stopped
+    → run (withLimits (holding k (held ++ more)) budget limit) .answer ≢ RunAnswer.NoModel
+    → (l : ℤ) → LitUpTo (k .vars) l → isForcedTo (run (holding k held) .progress .statuses) l
+    → isForcedTo (run (withLimits (holding k (held ++ more)) budget limit) .progress .statuses) l
+held-more = held-theorems.held-more
+
+-- If a run marks a variable free, holding either of its literals too never answers "no model".
+pub held-free : (k : Task) (held : List ℤ) (budget limit : ℕ) → 1 ≤ k .limit → 1 ≤ limit → (l : ℤ) → LitUpTo (k .vars) l
+    → statusAt (run (holding k held) .progress .statuses) (indexOf l) ≡ 1
+    → run (withLimits (holding k (held ++ (l ∷ []))) budget limit) .answer ≢ RunAnswer.NoModel
+held-free = held-theorems.held-free
+
+-- With both signs of a variable held there is no model, and no try is needed to find that.
+pub held-signs : (k : Task) (held : List ℤ) (l : ℤ) → 1 ≤ varOf l → In l held → In (negated l) held
+    → (run (holding k held) .answer ≡ RunAnswer.NoModel) × (run (holding k held) .progress .tries ≡ 0)
+held-signs = held-theorems.held-signs
+
+-- With an empty list a run is refused for what its list and its buffers are refused for, and its task is the formula's alone.
+pub held-none : (g : Given) → g .held ≡ [] → (refusalOf g ≡ plainRefusal g) × (taskOf g ≡ plainTask g)
+held-none = held-runs.none-held
+
+-- The one list of entries that a run is made on has the formula's clauses and then one for each held literal.
+pub held-list : (es held : List ℤ) → isEnded es ≡ true → ((l : ℤ) → In l held → 1 ≤ varOf l)
+    → clauses (listWith es held) ≡ withHeld (clauses es) held
+held-list = held-laws.clauses-held
+
+-- ---- one valid setup
+
+-- It is the first call of a run on the same formula with the same literals held and the same budget.
+pub setup-first-call : (g : Given) (values : List ℕ)
+    → setupCall (setupGiven (g .entries) (g .vars) (g .held) (g .budget) values) ≡ firstCall (taskOf g)
+setup-first-call = setups.setup-first-call
+
+-- With 0 the values are the bits of the first model of the formula that has every held literal.
+pub setup-model : (g : SetupGiven) → setupAnswer (setupCall g) ≡ RunAnswer.Settled
+    → FirstSetup (g .vars) (clauses (g .entries)) (g .held) (setupValues (g .vars) (setupCall g))
+setup-model = setups.setup-model
+
+-- Unless stopped, 20 is answered exactly if there is no such model.
+pub setup-none : (g : SetupGiven) → setupAnswer (setupCall g) ≢ RunAnswer.Stopped
+    → (setupAnswer (setupCall g) ≡ RunAnswer.NoModel) ↔ NoModel (g .vars) (withHeld (clauses (g .entries)) (g .held))
+setup-none = setups.setup-none
+
+-- Tries never exceed the budget, and all of it is spent where the call was stopped.
+pub setup-tries : (g : SetupGiven)
+    → (triesOf (setupCall g) ≤ g .budget) × (setupAnswer (setupCall g) ≡ RunAnswer.Stopped → triesOf (setupCall g) ≡ g .budget)
+setup-tries = setups.setup-tries
+
+-- Each refusal is given exactly when its rule says so of a run with the values in the place of the statuses, and none exactly if no rule does.
+pub setup-refusals : (g : SetupGiven) (a : Refusal) → (setupRefusal g ≡ some a) ↔ RunRefuses (setupRun g) a
+setup-refusals = setups.setup-refused
+
+pub setup-acceptance : (g : SetupGiven) → (setupRefusal g ≡ none) ↔ Accepted (setupRun g)
+setup-acceptance = setups.setup-accepted
+
+-- Refused, it returns zero counts and writes nothing; accepted, it writes the first V bytes and leaves the rest.
+pub setup-refused-nothing : (g : SetupGiven) (a : Refusal) → RunRefuses (setupRun g) a
+    → (setupReportOf g ≡ record { answer = RunAnswer.Refused a; calls = 0; tries = 0; forced = 0; free = 0 }) × (setupValuesAfter g ≡ g .values)
+setup-refused-nothing = setups.setup-nothing
+
+pub setup-writes : (g : SetupGiven) → Accepted (setupRun g)
+    → (setupReportOf g ≡ setupReport (setupCall g))
+    × (take (g .vars) (setupValuesAfter g) ≡ setupValues (g .vars) (setupCall g))
+    × (drop (g .vars) (setupValuesAfter g) ≡ drop (g .vars) (g .values))
+setup-writes = setups.setup-written
+
 -- ---- the printed table
 
--- No table is longer than 4,096 bytes, whatever the text.
-pub table-bound : (text : List ℕ) → length (tableOf text) ≤ maxTable
+-- No table is longer than 9,216 bytes, whatever the text and the held literals.
+pub table-bound : (text : List ℕ) (held : List ℤ) → length (tableOf text held) ≤ maxTable
 table-bound = table-laws.length-tableOf
 
 -- A refused text gets the line of its refusal and nothing else.
-pub table-refused : (text : List ℕ) (a : ReadAnswer) → Refuses maxEntries text a → tableOf text ≡ refusedLine (readNumber a) (readPlace a)
+pub table-refused : (text : List ℕ) (held : List ℤ) (a : ReadAnswer) → Refuses maxEntries text a
+    → tableOf text held ≡ refusedLine (readNumber a) (readPlace a)
 table-refused = tables.table-refused
 
-module _ {text : List ℕ} {vars n : ℕ} {es : List ℤ} (d : Dimacs text vars n es) where
-  -- The table of a text is that of the run on its entries, with budget 1,000,000 and chunk limit 16.
-  pub table-of-run : tableOf text ≡ tableOfRun vars (reportOfRun (run (tableTask vars es))) (run (tableTask vars es) .progress .statuses)
-      (hintsOf (tableTask vars es))
-  table-of-run = tables.table-of-run d
+-- So does an accepted text with more than 256 held literals,
+pub table-many-held : {text : List ℕ} {vars n : ℕ} {es : List ℤ} → Dimacs text vars n es → (held : List ℤ) → maxHeld < length held
+    → tableOf text held ≡ refusedLine 15 256
+table-many-held d = tables.table-many-held d
+
+-- and one with a held literal that is 0 or above V, by the first of them.
+pub table-bad-held : {text : List ℕ} {vars n : ℕ} {es : List ℤ} → Dimacs text vars n es → (held : List ℤ) → length held ≤ maxHeld
+    → (front : List ℤ) (l : ℤ) (back : List ℤ) → held ≡ front ++ l ∷ back → ((k : ℤ) → In k front → LitUpTo vars k)
+    → (varOf l ≡ 0) ⊎ (vars < varOf l) → tableOf text held ≡ refusedLine 13 (length front)
+table-bad-held d = tables.table-bad-held d
+
+module _ {text : List ℕ} {vars n : ℕ} {es : List ℤ} (d : Dimacs text vars n es) {held : List ℤ} (h : Holdable vars held) where
+  -- The table of a text is that of the run on its entries with the held literals, with budget 1,000,000 and chunk limit 16.
+  pub table-of-run : tableOf text held ≡ tableOfRun vars (reportOfRun (run (tableTask vars es held))) (run (tableTask vars es held) .progress .statuses)
+      (hintsOf (tableTask vars es held))
+  table-of-run = tables.table-of-run d h
 
   -- If its first line says answer 0, the line of a variable says `forced on` exactly if a model exists and all models make it true,
-  pub table-forced-on : SaysAnswer 0 (tableOf text) → (i : ℕ) → i < vars
-      → (lineAt (tableOf text) (suc i) ≡ decimal (suc i) ++ (forcedWord ++ onWord ++ heldWord ++ decimal (getD (hintsOf (tableTask vars es)) i 0)))
-      ↔ Forced vars (clauses es) (pos (suc i))
-  table-forced-on = tables.table-forced-on d
+  pub table-forced-on : SaysAnswer 0 (tableOf text held) → (i : ℕ) → i < vars
+      → (lineAt (tableOf text held) (suc i) ≡ decimal (suc i) ++ (forcedWord ++ onWord ++ heldWord ++ decimal (getD (hintsOf (tableTask vars es held)) i 0)))
+      ↔ Forced vars (withHeld (clauses es) held) (pos (suc i))
+  table-forced-on = tables.table-forced-on d h
 
   -- `forced off` exactly if a model exists and all models make it false,
-  pub table-forced-off : SaysAnswer 0 (tableOf text) → (i : ℕ) → i < vars
-      → (lineAt (tableOf text) (suc i) ≡ decimal (suc i) ++ (forcedWord ++ offWord ++ heldWord ++ decimal (getD (hintsOf (tableTask vars es)) i 0)))
-      ↔ Forced vars (clauses es) (negsuc i)
-  table-forced-off = tables.table-forced-off d
+  pub table-forced-off : SaysAnswer 0 (tableOf text held) → (i : ℕ) → i < vars
+      → (lineAt (tableOf text held) (suc i) ≡ decimal (suc i) ++ (forcedWord ++ offWord ++ heldWord ++ decimal (getD (hintsOf (tableTask vars es held)) i 0)))
+      ↔ Forced vars (withHeld (clauses es) held) (negsuc i)
+  table-forced-off = tables.table-forced-off d h
 
   -- and `free` exactly if two models differ on it.
-  pub table-free : SaysAnswer 0 (tableOf text) → (i : ℕ) → i < vars
-      → (lineAt (tableOf text) (suc i) ≡ decimal (suc i) ++ freeWord) ↔ Free vars (clauses es) i
-  table-free = tables.table-free d
+  pub table-free : SaysAnswer 0 (tableOf text held) → (i : ℕ) → i < vars
+      → (lineAt (tableOf text held) (suc i) ≡ decimal (suc i) ++ freeWord) ↔ Free vars (withHeld (clauses es) held) i
+  table-free = tables.table-free d h
 
   -- Unless its first line says answer 21, it says 20 exactly if there is no model.
-  pub table-no-model : (SaysAnswer 21 (tableOf text) → ⊥) → SaysAnswer 20 (tableOf text) ↔ NoModel vars (clauses es)
-  table-no-model = tables.table-no-model d
+  pub table-no-model : (SaysAnswer 21 (tableOf text held) → ⊥) → SaysAnswer 20 (tableOf text held) ↔ NoModel vars (withHeld (clauses es) held)
+  table-no-model = tables.table-no-model d h
 
 -- ---- why a literal is forced
 
@@ -424,6 +520,14 @@ further-cases = more-cases.further-cases
 pub hint-cases : all held-cases.passes held-cases.hintCases ≡ true
 hint-cases = held-cases.hint-cases
 
+-- Small formulas with held literals, whole.
+pub held-runs-cases : all chosen-cases.passes chosen-cases.heldCases ≡ true
+held-runs-cases = chosen-cases.held-cases
+
+-- One valid setup of small formulas, with the values.
+pub setup-cases : all setup-runs.passes setup-runs.setupCases ≡ true
+setup-cases = setup-runs.setup-cases
+
 -- The small texts, with number and place.
 pub small-texts : all reading.passes reading.smallTexts ≡ true
 small-texts = reading.small-texts
@@ -450,9 +554,13 @@ reads-unique = reading.reads-unique
 pub runs-unique : {g : Given} {r r′ : Report} {b b′ : Buffers} → Runs g r b → Runs g r′ b′ → (r ≡ r′) × (b ≡ b′)
 runs-unique = buffers.runs-unique
 
+-- One result and one buffer satisfy the contract of one valid setup.
+pub sets-up-unique : {g : SetupGiven} {r r′ : Report} {b b′ : List ℕ} → SetsUp g r b → SetsUp g r′ b′ → (r ≡ r′) × (b ≡ b′)
+sets-up-unique = setups.sets-up-unique
+
 -- One number and one buffer satisfy the printed table's contract.
-pub prints-unique : {text before : List ℕ} {n n′ : ℕ} {b b′ : List ℕ}
-    → Prints text before n b → Prints text before n′ b′ → (n ≡ n′) × (b ≡ b′)
+pub prints-unique : {text : List ℕ} {held : List ℤ} {before : List ℕ} {n n′ : ℕ} {b b′ : List ℕ}
+    → Prints text held before n b → Prints text held before n′ b′ → (n ≡ n′) × (b ≡ b′)
 prints-unique = printed.prints-unique
 
 -- One result and two buffers satisfy the contract of why.

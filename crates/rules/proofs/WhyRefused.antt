@@ -26,7 +26,8 @@ use Rattle.rules.specs.Numbers.{maxVars, maxClauses}
 use Rattle.rules.specs.Meaning.{varOf, LitUpTo}
 use Rattle.rules.specs.Answer.{logLength, listRules, refusalOf}
 use Rattle.rules.specs.RunRefusals.{Lent, Accepted}
-use Rattle.rules.specs.Why.{whyShort, isNoLiteral, literalRules, whyRefusal}
+use Rattle.rules.specs.Held.{isNoLiteral}
+use Rattle.rules.specs.Why.{whyShort, literalRules, whyRefusal}
 use Rattle.rules.specs.Why.{why, WhyGiven, questionOf, whyReportOf, marksAfter, whyValuesAfter, Explains}
 use Rattle.rules.specs.Why.{WhyLent, listOnly, WhyAccepted, WhyRefuses, many-vars, short-buffer, bad-list, bad-literal}
 use Rattle.rules.proofs.ListLaws.{apart, or-cases, or-left, or-right}

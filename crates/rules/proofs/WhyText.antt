@@ -11,7 +11,7 @@
 use mathlib.Core.Path.{_≡_, refl, sym, _∙_, ap}
 use mathlib.Core.Logic.{_⊎_, inl, inr}
 use mathlib.Core.Bool.{Bool, true, false}
-use mathlib.Core.List.{List, [], _∷_, List·Memᴰ·head, List·Memᴰ·tail, Memᴰ·append-left, Memᴰ·append-right}
+use mathlib.Core.List.{List, [], _∷_, List·Memᴰ·head, List·Memᴰ·tail, Memᴰ·append-left, Memᴰ·append-right, List·Memᴰ·not-nil}
 use mathlib.Core.Option.{Option, none, some}
 use Prim.Native.Nat.{ℕ, zero, suc, pred, _+_, _*_, _≤_}
 use Prim.Native.String.{String}
@@ -231,7 +231,8 @@ module _ {text : List ℕ} {vars n : ℕ} {es : List ℤ} (read : Dimacs text va
       }
 
   pub why-listed : Accepted (listOnly asked)
-  why-listed = dimacs-runs (listOnly asked) read (list-lent asked why-lent)
+  why-listed =
+      dimacs-runs (listOnly asked) read (list-lent asked why-lent) (record { few = omega arith; up-to = λ l i. absurd (List·Memᴰ·not-nil i) })
 
   pub why-only-literal : (a : Refusal) → WhyRefuses asked a → a ≡ Refusal.BadLiteral 0
   why-only-literal _ (many-vars h) = absurd (omega (arith, why-lent .vars-fit))

@@ -21,11 +21,11 @@ use native.Mathlib.Omega.{arith}
 use lib.ListN.{length, getD, set, replicate, length-replicate, length-append, length-set, length-map}
 use Rattle.rules.specs.declared.WhyAnswer.{WhyAnswer}
 use Rattle.rules.specs.Numbers.{maxClauses}
-use Rattle.rules.specs.Meaning.{Clause, Values, varOf, negated, isTrue, Model}
+use Rattle.rules.specs.Meaning.{Clause, Values, varOf, negated, isTrue, Model, bitOf}
 use Rattle.rules.specs.Models.{NoModel, Forced}
 use Rattle.rules.specs.Search.{Call, model, no-model, stopped}
 use Rattle.rules.specs.Run.{blank}
-use Rattle.rules.specs.Why.{Question, marked, noMarks, firstMarks, noValues, bitOf, WhyEnded, whyEnded, FalseModel}
+use Rattle.rules.specs.Why.{Question, marked, noMarks, firstMarks, noValues, WhyEnded, whyEnded, FalseModel}
 use Rattle.rules.specs.Why.{plainCall, falseCall, onVisit, visits, onSecond, onPlain, why}
 use Rattle.rules.proofs.ListLaws.{apart, both}
 use Rattle.rules.proofs.MeaningLaws.{blank-proper, blank-extends}

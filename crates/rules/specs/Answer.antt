@@ -17,11 +17,13 @@ use Rattle.rules.specs.Meaning.{varOf, clauses}
 use Rattle.rules.specs.Reading.{isZero}
 use Rattle.rules.specs.Run.{Task, Row, Ended, run}
 use Rattle.rules.specs.Hints.{hintsOf}
+use Rattle.rules.specs.Held.{withHeld, heldRules}
 
 -- what a run is given, and the buffers as they are lent
 pub record Given : Type 0 where
   pub entries : List ℤ
   pub vars : ℕ
+  pub held : List ℤ
   pub budget : ℕ
   pub limit : ℕ
   pub status : List ℕ
@@ -37,11 +39,12 @@ pub record Buffers : Type 0 where
 abbrev pub buffers : List ℕ → List ℕ → List ℕ → Buffers
 buffers status hints log = record { status = status; hints = hints; log = log }
 
-abbrev pub given : List ℤ → ℕ → ℕ → ℕ → Buffers → Given
-given es vars budget limit lent =
+abbrev pub given : List ℤ → ℕ → List ℤ → ℕ → ℕ → Buffers → Given
+given es vars held budget limit lent =
     record {
       entries = es;
       vars = vars;
+      held = held;
       budget = budget;
       limit = limit;
       status = lent .status;
@@ -53,7 +56,7 @@ given es vars budget limit lent =
 abbrev pub logLength : ℕ → ℕ
 logLength vars = 6 * (vars + 1)
 
--- ---- refusals, in the order 10, 1, 11, 12
+-- ---- refusals, in the order 10, 1, 11, 12, 15, 13
 
 -- empty, or ended by 0
 abbrev pub isEnded : List ℤ → Bool
@@ -73,9 +76,9 @@ listRules es vars =
     check (any (isAbove vars) es) (Refusal.EntryOverVars (nthIndex (isAbove vars) es 0)) ∷
     []
 
--- 10 and 1, then the list: the order is the same for whoever takes one, and 10 and 1 are each one's own
-abbrev pub takingRules : Bool → Bool → List ℤ → ℕ → List (Check Refusal)
-takingRules bad short es vars = check bad Refusal.BadLimits ∷ check short Refusal.ShortBuffer ∷ listRules es vars
+-- 10 and 1, then the list, then the held literals: the order is the same for whoever takes them, and 10 and 1 are each one's own
+abbrev pub takingRules : Bool → Bool → List ℤ → ℕ → List ℤ → List (Check Refusal)
+takingRules bad short es vars held = check bad Refusal.BadLimits ∷ check short Refusal.ShortBuffer ∷ (listRules es vars ++ heldRules held vars)
 
 -- 10
 abbrev pub outOfLimits : ℕ → ℕ → Bool
@@ -89,10 +92,19 @@ abbrev pub isShort : Given → Bool
 isShort g = tooShort (g .vars) (length (g .status)) (length (g .hints)) (length (g .log))
 
 unfoldable pub refusalOf : Given → Option Refusal
-refusalOf g = firstOf (takingRules (outOfLimits (g .vars) (g .limit)) (isShort g) (g .entries) (g .vars))
+refusalOf g = firstOf (takingRules (outOfLimits (g .vars) (g .limit)) (isShort g) (g .entries) (g .vars) (g .held))
 
 abbrev pub taskOf : Given → Task
-taskOf g = record { vars = g .vars; budget = g .budget; limit = g .limit; formula = clauses (g .entries) }
+taskOf g = record { vars = g .vars; budget = g .budget; limit = g .limit; formula = withHeld (clauses (g .entries)) (g .held) }
+
+-- the same with no word of held literals; that a run with an empty list is this one is a theorem
+abbrev pub plainRefusal : Given → Option Refusal
+plainRefusal g =
+    firstOf
+    (check (outOfLimits (g .vars) (g .limit)) Refusal.BadLimits ∷ check (isShort g) Refusal.ShortBuffer ∷ listRules (g .entries) (g .vars))
+
+abbrev pub plainTask : Given → Task
+plainTask g = record { vars = g .vars; budget = g .budget; limit = g .limit; formula = clauses (g .entries) }
 
 -- ---- what is returned: a refused run returns zero counts
 

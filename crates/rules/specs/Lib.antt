@@ -12,6 +12,7 @@ pub mod Search
 pub mod Units
 pub mod Run
 pub mod Hints
+pub mod Held
 pub mod Answer
 pub mod Trace
 pub mod RunRefusals
@@ -19,6 +20,7 @@ pub mod Log
 pub mod Models
 pub mod Printed
 pub mod Tables
+pub mod Setup
 pub mod Why
 pub mod ModelLine
 pub mod WhyPrinted

@@ -76,6 +76,12 @@ isUnset vs l = eqb (valueAt vs (indexOf l)) 0
 abbrev pub assign : Values → ℤ → Values
 assign vs l = set vs (indexOf l) (trueByte l)
 
+-- the value of a variable as it is written for a caller: 1 for true, 0 for false
+abbrev pub bitOf : ℕ → ℕ
+bitOf zero = 0
+bitOf (suc zero) = 0
+bitOf (suc (suc b)) = 1
+
 -- an empty clause has no true literal
 abbrev pub hasTrue : Values → Clause → Bool
 hasTrue vs cl = any (isTrue vs) cl

@@ -22,6 +22,10 @@ maxEntries = 4096
 abbrev pub maxChunk : ℕ
 maxChunk = 256
 
+-- literals
+abbrev pub maxHeld : ℕ
+maxHeld = 256
+
 -- the log's second column: 1 model, 2 none, 3 stopped
 abbrev pub outcomeNumber : Outcome → ℕ
 outcomeNumber Outcome.Model = 1
@@ -60,6 +64,7 @@ refusalNumber Refusal.BadLimits = 10
 refusalNumber (Refusal.BadList at) = 11
 refusalNumber (Refusal.EntryOverVars at) = 12
 refusalNumber (Refusal.BadLiteral at) = 13
+refusalNumber Refusal.ManyHeld = 15
 
 abbrev pub refusalPlace : Refusal → ℕ
 refusalPlace Refusal.ShortBuffer = 0
@@ -67,6 +72,7 @@ refusalPlace Refusal.BadLimits = 0
 refusalPlace (Refusal.BadList at) = at
 refusalPlace (Refusal.EntryOverVars at) = at
 refusalPlace (Refusal.BadLiteral at) = at
+refusalPlace Refusal.ManyHeld = maxHeld
 
 -- and for a run
 abbrev pub runNumber : RunAnswer → ℕ

@@ -106,11 +106,12 @@ abbrev pub tableChunk : ℕ
 tableChunk = 16
 
 -- that budget and that chunk limit, with buffers of just the size
-abbrev pub tableGiven : Sizes → List ℤ → Given
-tableGiven s es =
+abbrev pub tableGiven : Sizes → List ℤ → List ℤ → Given
+tableGiven s es held =
     record {
       entries = es;
       vars = s .vars;
+      held = held;
       budget = tableBudget;
       limit = tableChunk;
       status = replicate (s .vars) 0;
@@ -118,13 +119,14 @@ tableGiven s es =
       log = replicate (logLength (s .vars)) 0;
     }
 
-abbrev pub tableOfJudged : Judged → List ℕ
-tableOfJudged (refused a) = refusedLine (readNumber a) (readPlace a)
-tableOfJudged (accepted s es) =
-    tableOfRun (s .vars) (reportOf (tableGiven s es)) (statusAfter (tableGiven s es)) (hintsAfter (tableGiven s es))
+abbrev pub tableOfJudged : Judged → List ℤ → List ℕ
+tableOfJudged (refused a) held = refusedLine (readNumber a) (readPlace a)
+tableOfJudged (accepted s es) held =
+    tableOfRun (s .vars) (reportOf (tableGiven s es held)) (statusAfter (tableGiven s es held)) (hintsAfter (tableGiven s es held))
 
-unfoldable pub tableOf : List ℕ → List ℕ
-tableOf text = tableOfJudged (judge maxEntries text)
+-- the table of a text, with literals held
+unfoldable pub tableOf : List ℕ → List ℤ → List ℕ
+tableOf text held = tableOfJudged (judge maxEntries text) held
 
 -- ---- what a printing promises of its result and of the buffer: the bytes of the table, and how many they are; nothing, and 0,
 -- where the buffer is shorter than any table may be long
@@ -140,6 +142,6 @@ abbrev pub bytesIfRoom : Bool → List ℕ → List ℕ → List ℕ
 bytesIfRoom true table before = table ++ drop (length table) before
 bytesIfRoom false table before = before
 
-pub record Prints (text before : List ℕ) (count : ℕ) (after : List ℕ) : Type 0 where
-  pub count-is : count ≡ countIfRoom (leb maxTable (length before)) (tableOf text)
-  pub after-is : after ≡ bytesIfRoom (leb maxTable (length before)) (tableOf text) before
+pub record Prints (text : List ℕ) (held : List ℤ) (before : List ℕ) (count : ℕ) (after : List ℕ) : Type 0 where
+  pub count-is : count ≡ countIfRoom (leb maxTable (length before)) (tableOf text held)
+  pub after-is : after ≡ bytesIfRoom (leb maxTable (length before)) (tableOf text held) before

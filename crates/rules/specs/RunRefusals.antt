@@ -9,9 +9,10 @@ use lib.IntN.{ℤ, pos}
 use lib.ListN.{length}
 use Rattle.rules.specs.declared.Refusal.{Refusal}
 use Rattle.rules.specs.Lists.{In, count}
-use Rattle.rules.specs.Numbers.{maxVars, maxClauses, maxEntries, maxChunk}
-use Rattle.rules.specs.Meaning.{varOf}
+use Rattle.rules.specs.Numbers.{maxVars, maxClauses, maxEntries, maxChunk, maxHeld}
+use Rattle.rules.specs.Meaning.{varOf, LitUpTo}
 use Rattle.rules.specs.Reading.{isZero}
+use Rattle.rules.specs.Held.{Holdable}
 use Rattle.rules.specs.Answer.{Given, logLength, isEnded}
 
 -- not 10
@@ -40,9 +41,15 @@ pub record Listed (g : Given) : Type 0 where
   pub clauses-fit : count isZero (g .entries) ≤ maxClauses
 
 -- nor 12
+pub record Formed (g : Given) : Type 0 where
+  pub listed : Listed g
+  pub up-to : (l : ℤ) → In l (g .entries) → varOf l ≤ g .vars
+
+-- nor 15 nor 13
 pub record Accepted (g : Given) : Type 0 where
   pub listed : Listed g
   pub up-to : (l : ℤ) → In l (g .entries) → varOf l ≤ g .vars
+  pub holdable : Holdable (g .vars) (g .held)
 
 pub data RunRefuses (g : Given) : Refusal → Type 0 where
   -- 10
@@ -58,3 +65,8 @@ pub data RunRefuses (g : Given) : Refusal → Type 0 where
   -- 12: the first variable above V
   entry-over-vars : Listed g → (front : List ℤ) (l : ℤ) (back : List ℤ) → g .entries ≡ front ++ l ∷ back
       → ((k : ℤ) → In k front → varOf k ≤ g .vars) → g .vars < varOf l → RunRefuses g (Refusal.EntryOverVars (length front))
+  -- 15
+  many-held : Formed g → maxHeld < length (g .held) → RunRefuses g Refusal.ManyHeld
+  -- 13: the first held literal that is 0 or above V
+  bad-literal : Formed g → length (g .held) ≤ maxHeld → (front : List ℤ) (l : ℤ) (back : List ℤ) → g .held ≡ front ++ l ∷ back
+      → ((k : ℤ) → In k front → LitUpTo (g .vars) k) → (varOf l ≡ 0) ⊎ (g .vars < varOf l) → RunRefuses g (Refusal.BadLiteral (length front))

@@ -10,6 +10,7 @@ use Rattle.rules.specs.Text.{isLf}
 use Rattle.rules.specs.Meaning.{clauses}
 use Rattle.rules.specs.Plain.{decimal}
 use Rattle.rules.specs.Run.{Task}
+use Rattle.rules.specs.Held.{withHeld}
 use Rattle.rules.specs.Printed.{answerWord, tableBudget, tableChunk}
 
 -- the line with this number, from 0: so the line of variable v has the number v
@@ -22,5 +23,5 @@ pub record SaysAnswer (n : ℕ) (table : List ℕ) : Type 0 where
   pub begins : table ≡ answerWord ++ decimal n ++ 32 ∷ rest
 
 -- the run of the table program: budget 1,000,000 and chunk limit 16
-abbrev pub tableTask : ℕ → List ℤ → Task
-tableTask vars es = record { vars = vars; budget = tableBudget; limit = tableChunk; formula = clauses es }
+abbrev pub tableTask : ℕ → List ℤ → List ℤ → Task
+tableTask vars es held = record { vars = vars; budget = tableBudget; limit = tableChunk; formula = withHeld (clauses es) held }

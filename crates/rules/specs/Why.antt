@@ -6,7 +6,7 @@ use mathlib.Core.Bool.{Bool, false, _||_}
 use mathlib.Core.List.{List, [], _∷_, _++_, map}
 use mathlib.Core.Option.{Option, none, some}
 use Prim.Native.Nat.{ℕ, zero, suc, _-_, _≤_, _<_}
-use lib.Dec.{eqb, ltb}
+use lib.Dec.{ltb}
 use lib.IntN.{ℤ}
 use lib.ListN.{length, drop, replicate, set}
 use Rattle.rules.specs.declared.Refusal.{Refusal}
@@ -14,9 +14,10 @@ use Rattle.rules.specs.declared.WhyAnswer.{WhyAnswer}
 use Rattle.rules.specs.declared.WhyReport.{WhyReport}
 use Rattle.rules.specs.Lists.{Check, check, firstOf}
 use Rattle.rules.specs.Numbers.{maxVars, maxClauses, refusalNumber, refusalPlace}
-use Rattle.rules.specs.Meaning.{Clause, Values, varOf, negated, clauses, isTrue, LitUpTo, Model}
+use Rattle.rules.specs.Meaning.{Clause, Values, varOf, negated, clauses, bitOf, isTrue, LitUpTo, Model}
 use Rattle.rules.specs.Search.{Call, model, no-model, stopped, callOn}
 use Rattle.rules.specs.Run.{blank}
+use Rattle.rules.specs.Held.{isNoLiteral}
 use Rattle.rules.specs.Answer.{Given, given, buffers, logLength, takingRules}
 use Rattle.rules.specs.RunRefusals.{Accepted, RunRefuses}
 
@@ -75,12 +76,6 @@ firstMarks n = replicate n 1 ++ replicate (maxClauses - n) 0
 abbrev pub noMarks : List ℕ
 noMarks = replicate maxClauses 0
 
--- the value of a variable as it is written: 1 for true, 0 for false
-abbrev pub bitOf : ℕ → ℕ
-bitOf zero = 0
-bitOf (suc zero) = 0
-bitOf (suc (suc b)) = 1
-
 abbrev pub noValues : Question → List ℕ
 noValues q = replicate (q .vars) 0
 
@@ -138,14 +133,11 @@ abbrev pub whyShort : ℕ → ℕ → ℕ → Bool
 whyShort vars marks values = ltb marks maxClauses || ltb values vars
 
 -- 13: the literal 0, and one above V
-abbrev pub isNoLiteral : ℕ → ℤ → Bool
-isNoLiteral vars l = eqb (varOf l) 0 || ltb vars (varOf l)
-
 abbrev pub literalRules : ℤ → ℕ → List (Check Refusal)
 literalRules l vars = check (isNoLiteral vars l) (Refusal.BadLiteral 0) ∷ []
 
 abbrev pub whyRules : List ℤ → ℕ → ℤ → ℕ → ℕ → List (Check Refusal)
-whyRules es vars l marks values = takingRules (ltb maxVars vars) (whyShort vars marks values) es vars ++ literalRules l vars
+whyRules es vars l marks values = takingRules (ltb maxVars vars) (whyShort vars marks values) es vars [] ++ literalRules l vars
 
 unfoldable pub whyRefusal : WhyGiven → Option Refusal
 whyRefusal g = firstOf (whyRules (g .entries) (g .vars) (g .literal) (length (g .marks)) (length (g .values)))
@@ -194,7 +186,7 @@ pub record WhyLent (g : WhyGiven) : Type 0 where
 
 -- a run of the list for which nothing else is wrong: what it is refused for is the list's own
 abbrev pub listOnly : WhyGiven → Given
-listOnly g = given (g .entries) (g .vars) 0 1 (buffers (blank (g .vars)) (blank (g .vars)) (replicate (logLength (g .vars)) 0))
+listOnly g = given (g .entries) (g .vars) [] 0 1 (buffers (blank (g .vars)) (blank (g .vars)) (replicate (logLength (g .vars)) 0))
 
 -- nothing is wrong
 pub record WhyAccepted (g : WhyGiven) : Type 0 where

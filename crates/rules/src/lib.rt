@@ -22,6 +22,13 @@ pub const MAX_ENTRIES: usize = 4096;
 
 pub const MAX_CHUNK: u32 = 256;
 
+pub const MAX_HELD: usize = 256;
+
+// "Choices already made": an entry list with the held literals behind it, and where its clauses start, with one more for the end.
+pub const MAX_LIST: usize = MAX_ENTRIES + 2 * MAX_HELD;
+
+pub const MAX_STARTS: usize = MAX_CLAUSES as usize + MAX_HELD + 1;
+
 // "What comes back": the log of a run on as many variables as there may be, six numbers for each call.
 pub const MAX_LOG: usize = 6 * (MAX_VARS as usize + 1);
 
@@ -95,6 +102,7 @@ pub enum Refusal {
     BadList(usize),
     EntryOverVars(usize),
     BadLiteral(usize),
+    ManyHeld,
 }
 
 // The answer of a run. Its number and place are runNumber and runPlace.

@@ -64,6 +64,7 @@ pub fn refusal_number(refusal: crate::Refusal) -> u32
         crate::Refusal::BadList(_) => 11,
         crate::Refusal::EntryOverVars(_) => 12,
         crate::Refusal::BadLiteral(_) => 13,
+        crate::Refusal::ManyHeld => 15,
     }
 }
 
@@ -78,6 +79,7 @@ pub fn refusal_place(refusal: crate::Refusal) -> usize
         crate::Refusal::BadList(at) => at,
         crate::Refusal::EntryOverVars(at) => at,
         crate::Refusal::BadLiteral(at) => at,
+        crate::Refusal::ManyHeld => crate::MAX_HELD,
     }
 }
 

@@ -18,7 +18,7 @@ fn show(name: &[u8], text: &mut [u8]) {
     io::write_all(STDOUT_FILENO, name);
     io::write_all(STDOUT_FILENO, b"\n");
     let n = read_file(name, text);
-    output::write_table(&text[..n]);
+    output::write_plain(&text[..n]);
 }
 
 fn show_word(i: usize, name: &mut [u8], text: &mut [u8]) {

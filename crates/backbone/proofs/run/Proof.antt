@@ -6,7 +6,8 @@ use Rattle.rules.specs.RunRefusals.{Accepted}
 use Rattle.refusals.specs.declared.Checked.the-variants.{Accepted as NotRefused}
 use Rattle.refusals.specs.Refuse.{found}
 use Rattle.backbone.proofs.ListingLaws.{front-len}
-use Rattle.backbone.proofs.RunLaws.{checked-is, accepted, is-formula, clauses-most, hints-len, log-len, allowed, runs-refused, runs-accepted}
+use Rattle.backbone.proofs.RunLaws.{checked-is, accepted, entries-most, is-formula, clauses-most, hints-len, log-len, allowed}
+use Rattle.backbone.proofs.RunLaws.{runs-refused, runs-accepted}
 use Rattle.backbone.proofs.run.Statement.{statement}
 use Rattle.backbone.proofs.run.Tie as tie
 
@@ -29,7 +30,7 @@ enum-told c = search needs
 
 abbrev the-given : tie.Start → Given
 the-given s =
-    given (s .args .entries .now) (s .args .vars) (s .args .budget) (s .args .«chunk-limit»)
+    given (s .args .entries .now) (s .args .vars) (s .args .held .now) (s .args .budget) (s .args .«chunk-limit»)
     (buffers (s .args .status .now) (s .args .hints .now) (s .args .log .now))
 
 abbrev start : tie.After-refuse → tie.Start
@@ -54,40 +55,41 @@ open-run c = accepted (the-given (start (refused c))) (said c)
 array-borrow-prefix-first : tie.Need-array-borrow-prefix-first
 array-borrow-prefix-first c = open-run c .listed .lent .in-limits .vars-fit
 
-slice-aggregate-accepted-run : tie.Need-slice-aggregate-accepted-run
-slice-aggregate-accepted-run c = front-len _ _ (open-run (c .before) .listed .lent .in-limits .vars-fit)
+slice-aggregate-held-run : tie.Need-slice-aggregate-held-run
+slice-aggregate-held-run c = front-len _ _ (open-run (c .before) .listed .lent .in-limits .vars-fit)
 
-slice-relend-prefix-accepted-run : tie.Need-slice-relend-prefix-accepted-run
-slice-relend-prefix-accepted-run c = open-run (c .before) .listed .lent .status-fits
+slice-relend-prefix-held-run : tie.Need-slice-relend-prefix-held-run
+slice-relend-prefix-held-run c = open-run (c .before) .listed .lent .status-fits
 
-slice-aggregate-accepted-run-2 : tie.Need-slice-aggregate-accepted-run-2
-slice-aggregate-accepted-run-2 c = front-len _ _ (open-run (c .before .before) .listed .lent .status-fits)
+slice-aggregate-held-run-2 : tie.Need-slice-aggregate-held-run-2
+slice-aggregate-held-run-2 c = front-len _ _ (open-run (c .before .before) .listed .lent .status-fits)
 
-slice-relend-prefix-accepted-run-2 : tie.Need-slice-relend-prefix-accepted-run-2
-slice-relend-prefix-accepted-run-2 c = open-run (c .before .before) .listed .lent .hints-fit
+slice-relend-prefix-held-run-2 : tie.Need-slice-relend-prefix-held-run-2
+slice-relend-prefix-held-run-2 c = open-run (c .before .before) .listed .lent .hints-fit
 
-slice-aggregate-accepted-run-3 : tie.Need-slice-aggregate-accepted-run-3
-slice-aggregate-accepted-run-3 c = front-len _ _ (open-run (c .before .before .before) .listed .lent .hints-fit)
+slice-aggregate-held-run-3 : tie.Need-slice-aggregate-held-run-3
+slice-aggregate-held-run-3 c = front-len _ _ (open-run (c .before .before .before) .listed .lent .hints-fit)
 
-add-accepted-run : tie.Need-add-accepted-run
-add-accepted-run c = search needs
+add-held-run : tie.Need-add-held-run
+add-held-run c = search needs
 
-mul-accepted-run : tie.Need-mul-accepted-run
-mul-accepted-run c = search needs
+mul-held-run : tie.Need-mul-held-run
+mul-held-run c = search needs
 
-slice-relend-prefix-accepted-run-3 : tie.Need-slice-relend-prefix-accepted-run-3
-slice-relend-prefix-accepted-run-3 c = open-run (c .before .before .before) .listed .lent .log-fits
+slice-relend-prefix-held-run-3 : tie.Need-slice-relend-prefix-held-run-3
+slice-relend-prefix-held-run-3 c = open-run (c .before .before .before) .listed .lent .log-fits
 
-slice-aggregate-accepted-run-4 : tie.Need-slice-aggregate-accepted-run-4
-slice-aggregate-accepted-run-4 c = front-len _ _ (open-run (c .before .before .before .before) .listed .lent .log-fits)
+slice-aggregate-held-run-4 : tie.Need-slice-aggregate-held-run-4
+slice-aggregate-held-run-4 c = front-len _ _ (open-run (c .before .before .before .before) .listed .lent .log-fits)
 
-accepted-run-requires : tie.Need-accepted-run-requires
-accepted-run-requires c κs =
+held-run-requires : tie.Need-held-run-requires
+held-run-requires c κs =
     let told = c .before .before .before .before in
     let g = the-given (start (refused told)) in
     let lent = open-run told .listed .lent in
     record {
       formula = is-formula g (said told);
+      entries-most = entries-most g (said told);
       clauses-most = clauses-most g (said told);
       first-len = sym (front-len _ _ (lent .in-limits .vars-fit)) ∙ front-len _ _ (lent .status-fits);
       hints-len = hints-len g (said told);
@@ -113,7 +115,7 @@ returns-2 : tie.Need-returns-2
 returns-2 c =
     let ran = c .before .before .before .before .before .before .before in
     let told = ran .before .before .before .before .before in
-    runs-accepted (the-given (start (refused told))) (said told) (ran .accepted-run .ensures)
+    runs-accepted (the-given (start (refused told))) (said told) (ran .held-run .ensures)
 
 pub run-spec : {M : Type 1} → statement M
 run-spec =
@@ -125,16 +127,16 @@ run-spec =
     enum-known-checked
     enum-told
     array-borrow-prefix-first
-    slice-aggregate-accepted-run
-    slice-relend-prefix-accepted-run
-    slice-aggregate-accepted-run-2
-    slice-relend-prefix-accepted-run-2
-    slice-aggregate-accepted-run-3
-    add-accepted-run
-    mul-accepted-run
-    slice-relend-prefix-accepted-run-3
-    slice-aggregate-accepted-run-4
-    accepted-run-requires
+    slice-aggregate-held-run
+    slice-relend-prefix-held-run
+    slice-aggregate-held-run-2
+    slice-relend-prefix-held-run-2
+    slice-aggregate-held-run-3
+    add-held-run
+    mul-held-run
+    slice-relend-prefix-held-run-3
+    slice-aggregate-held-run-4
+    held-run-requires
     returns
     same-length
     same-length-2

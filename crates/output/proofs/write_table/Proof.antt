@@ -14,12 +14,12 @@ print-requires : tie.Need-print-requires
 print-requires c κs = search needs
 
 array-share-prefix-out : tie.Need-array-share-prefix-out
-array-share-prefix-out c = omega (arith, prints-le (c .before .print .ensures), c .before .print .kept .1 .0)
+array-share-prefix-out c = omega (arith, prints-le (c .before .print .ensures), c .before .print .kept .1 .1 .0)
 
 slice-aggregate-write-all : tie.Need-slice-aggregate-write-all
 slice-aggregate-write-all c =
     let put = c .before .before in
-    sym (length-take-le _ _ (omega (arith, prints-le (put .print .ensures), put .print .kept .1 .0)))
+    sym (length-take-le _ _ (omega (arith, prints-le (put .print .ensures), put .print .kept .1 .1 .0)))
 
 write-all-requires : tie.Need-write-all-requires
 write-all-requires c κs = search needs

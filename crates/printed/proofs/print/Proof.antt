@@ -8,7 +8,7 @@ use Rattle.printed.proofs.print.Tie as tie
 returns : tie.Need-returns
 returns c =
     let s = c .before .before .before in
-    prints-short (s .args .text .now) (s .args .out .now) (c .if1 .taken)
+    prints-short (s .args .text .now) (s .args .held .now) (s .args .out .now) (c .if1 .taken)
 
 slice-aggregate-put-text : tie.Need-slice-aggregate-put-text
 slice-aggregate-put-text c = search needs
@@ -17,7 +17,7 @@ put-text-requires : tie.Need-put-text-requires
 put-text-requires c κs =
     let other = c .before .before in
     let s = other .before .before .before in
-    (whole-room (s .args .text .now) (s .args .out .now) (other .if1 .left), refl)
+    (whole-room (s .args .text .now) (s .args .held .now) (s .args .out .now) (other .if1 .left), refl)
 
 same-length : tie.Need-same-length
 same-length c = search needs

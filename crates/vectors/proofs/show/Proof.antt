@@ -17,14 +17,14 @@ write-all-requires-2 c κs = search needs
 read-file-requires : tie.Need-read-file-requires
 read-file-requires c κs = search needs
 
-slice-reshare-prefix-write-table : tie.Need-slice-reshare-prefix-write-table
-slice-reshare-prefix-write-table c = search needs
+slice-reshare-prefix-write-plain : tie.Need-slice-reshare-prefix-write-plain
+slice-reshare-prefix-write-plain c = search needs
 
-slice-aggregate-write-table : tie.Need-slice-aggregate-write-table
-slice-aggregate-write-table c = sym (length-take-le _ _ (c .before .before .before .read-file .ensures))
+slice-aggregate-write-plain : tie.Need-slice-aggregate-write-plain
+slice-aggregate-write-plain c = sym (length-take-le _ _ (c .before .before .before .read-file .ensures))
 
-write-table-requires : tie.Need-write-table-requires
-write-table-requires c κs = search needs
+write-plain-requires : tie.Need-write-plain-requires
+write-plain-requires c κs = search needs
 
 same-length : tie.Need-same-length
 same-length c = search needs
@@ -40,8 +40,8 @@ show-spec =
     slice-aggregate-write-all
     write-all-requires-2
     read-file-requires
-    slice-reshare-prefix-write-table
-    slice-aggregate-write-table
-    write-table-requires
+    slice-reshare-prefix-write-plain
+    slice-aggregate-write-plain
+    write-plain-requires
     same-length
     returns)

@@ -20,11 +20,13 @@ read-number-requires c κs = search needs
 -- the list of an accepted text
 listed : (c : tie.Then1)
     → let read = c .before .before .before in
-    ReadList (read .before .before .before .before .args .text .now) (read .read .result) (read .read .last .1 .0)
+    let s = read .before .before .before .before in
+    ReadList (s .args .text .now) (read .read .result) (read .read .last .1 .0) (s .args .held .now)
 listed c =
     let number = c .before in
     let read = number .before .before in
-    read-list (read .read .ensures) (read .before .before .before .before .pre .1) (sym (number .read-number .ensures) ∙ c .if1 .taken)
+    let s = read .before .before .before .before in
+    read-list (read .read .ensures) (s .pre .1) (s .args .held .now) (sym (number .read-number .ensures) ∙ c .if1 .taken)
 
 slice-reshare-prefix-put-list : tie.Need-slice-reshare-prefix-put-list
 slice-reshare-prefix-put-list c = listed (c .before) .counted
@@ -57,15 +59,17 @@ read-place-requires : tie.Need-read-place-requires
 read-place-requires c κs = search needs
 
 -- the line of a refused one
-line : (c : tie.After-read-place) → refusedLine (c .before .before .read-number .result) (c .read-place .result)
-    ≡ tableOf (c .before .before .before .before .before .before .before .before .args .text .now)
+line : (c : tie.After-read-place)
+    → let s = c .before .before .before .before .before .before .before .before in
+    refusedLine (c .before .before .read-number .result) (c .read-place .result) ≡ tableOf (s .args .text .now) (s .args .held .now)
 line c =
     let number = c .before .before in
     let read = number .before .before in
+    let s = read .before .before .before .before in
     ap (λ (n : ℕ). refusedLine n (c .read-place .result)) (number .read-number .ensures) ∙
     ap (λ (n : ℕ). refusedLine (readNumber (read .read .result .answer)) n) (c .read-place .ensures) ∙
     sym
-    (read-line (read .read .ensures) (read .before .before .before .before .pre .1)
+    (read-line (read .read .ensures) (s .pre .1) (s .args .held .now)
     (λ e. omega (arith, number .read-number .ensures, c .before .if1 .left, e)))
 
 put-refused-requires : tie.Need-put-refused-requires

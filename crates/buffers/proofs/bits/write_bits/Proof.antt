@@ -1,11 +1,11 @@
--- `marks::write_bits` meets its contract. The invariant of its loop: the first i are bits, the others as they were. Assumes nothing.
+-- `buffers::bits::write_bits` meets its contract. The invariant of its loop: the first i are bits, the others as they were. Assumes nothing.
 use Prim.Native.Nat.{_-_}
 use native.Mathlib.Omega.{arith}
 use lib.ListN.{length, length-set}
-use Rattle.reason.proofs.KeptLaws.{Bits, bits-start, bits-step, bits-done}
+use Rattle.buffers.proofs.BitsLaws.{Bits, bits-start, bits-step, bits-done}
 use borrow.Author.Needs.{needs}
-use Rattle.reason.proofs.marks.write_bits.Statement.{statement}
-use Rattle.reason.proofs.marks.write_bits.Tie as tie
+use Rattle.buffers.proofs.bits.write_bits.Statement.{statement}
+use Rattle.buffers.proofs.bits.write_bits.Tie as tie
 
 abbrev Inv-loop : tie.InvT-loop
 Inv-loop values₀ i₀ values i = Bits values₀ values i

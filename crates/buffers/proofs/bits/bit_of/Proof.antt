@@ -1,7 +1,7 @@
--- `marks::bit_of` meets its contract. Assumes nothing.
-use Rattle.reason.proofs.KeptLaws.{bitOf-false, bitOf-true}
-use Rattle.reason.proofs.marks.bit_of.Statement.{statement}
-use Rattle.reason.proofs.marks.bit_of.Tie as tie
+-- `buffers::bits::bit_of` meets its contract. Assumes nothing.
+use Rattle.buffers.proofs.BitsLaws.{bitOf-false, bitOf-true}
+use Rattle.buffers.proofs.bits.bit_of.Statement.{statement}
+use Rattle.buffers.proofs.bits.bit_of.Tie as tie
 
 returns : tie.Need-returns
 returns c = bitOf-false (c .before .args .byte) (c .if1 .taken)

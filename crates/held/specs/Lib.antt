@@ -1,0 +1,2 @@
+-- Entries stored one behind the other.
+pub mod Stored

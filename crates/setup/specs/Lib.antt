@@ -1,0 +1,2 @@
+-- The first call alone as code makes it.
+pub mod Called
