@@ -2,9 +2,9 @@
 #include <igbezolum.h>
 #include <stdio.h>
 
-static uint8_t text[IGB_TEXT_MAX + 1], status[IGB_STATUS_LEN]; /* with a byte more than is taken, a longer text is refused */
+static uint8_t text[IGB_TEXT_MAX + 1], status[IGB_STATUS_LEN], ways[IGB_WAYS_LEN]; /* with a byte more than is taken, a longer text is refused */
 static int32_t entries[IGB_ENTRIES_LEN];
-static uint32_t hints[IGB_HINTS_LEN], rows[IGB_LOG_LEN];
+static uint32_t calls[IGB_CALLS_LEN], hints[IGB_HINTS_LEN], rows[IGB_LOG_LEN];
 
 int main(int argc, char **argv)
 {
@@ -19,8 +19,8 @@ int main(int argc, char **argv)
         fprintf(stderr, "forced: refused %u at byte %u\n", (unsigned)card.answer, (unsigned)card.place);
         return 1;
     }
-    igb_report run = igb_run(entries, card.count, card.vars, NULL, 0, IGB_TABLE_BUDGET, IGB_TABLE_CHUNK, status, IGB_STATUS_LEN, hints,
-                             IGB_HINTS_LEN, rows, IGB_LOG_LEN);
+    igb_report run = igb_run(entries, card.count, card.vars, NULL, 0, IGB_TABLE_BUDGET, IGB_TABLE_CHUNK, status, IGB_STATUS_LEN, calls,
+                             IGB_CALLS_LEN, ways, IGB_WAYS_LEN, hints, IGB_HINTS_LEN, rows, IGB_LOG_LEN);
     for (uint32_t v = 1; v <= card.vars; v++)
         if (status[v - 1] == IGB_FORCED_ON || status[v - 1] == IGB_FORCED_OFF)
             printf("switch %u is always %s, held by rule %u\n", (unsigned)v, status[v - 1] == IGB_FORCED_ON ? "on" : "off",

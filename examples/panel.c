@@ -7,9 +7,9 @@
 #include <stdlib.h>
 #include <string.h>
 
-static uint8_t text[IGB_TEXT_MAX + 1], status[IGB_STATUS_LEN], greyed[IGB_STATUS_LEN], values[IGB_VALUES_LEN];
+static uint8_t text[IGB_TEXT_MAX + 1], status[IGB_STATUS_LEN], ways[IGB_WAYS_LEN], greyed[IGB_STATUS_LEN], values[IGB_VALUES_LEN];
 static int32_t entries[IGB_ENTRIES_LEN], held[IGB_HELD_MAX];
-static uint32_t hints[IGB_HINTS_LEN], rows[IGB_LOG_LEN];
+static uint32_t calls[IGB_CALLS_LEN], hints[IGB_HINTS_LEN], rows[IGB_LOG_LEN];
 static igb_reading card;
 static size_t ticks;
 
@@ -44,7 +44,7 @@ static void say_greyed(void)
 static int show(void)
 {
     igb_report run = igb_run(entries, card.count, card.vars, held, ticks, IGB_TABLE_BUDGET, IGB_TABLE_CHUNK, status, IGB_STATUS_LEN,
-                             hints, IGB_HINTS_LEN, rows, IGB_LOG_LEN);
+                             calls, IGB_CALLS_LEN, ways, IGB_WAYS_LEN, hints, IGB_HINTS_LEN, rows, IGB_LOG_LEN);
     if (run.answer == IGB_NO_MODEL)
         return 0;
     if (run.answer == IGB_OK)

@@ -6,13 +6,15 @@
  * it has both values in valid setups.
  *
  *     igb_read     the text to a list of entries
- *     igb_run      the list to a status for each switch, the clause that holds it, and a log of the run
+ *     igb_run      the list to a status for each switch, how it was settled, the clause that holds it, and a log of the run
  *     igb_setup    the list to one valid setup
  *     igb_why      the list and a literal to the clauses that alone force it, or to a valid setup that has it false
+ *     igb_witness  the list and a free switch to two valid setups that differ on it
+ *     igb_witness_text     the text and a free switch to both setups printed, a line each
  *     igb_table    the text to the printed table, as the program `table` prints it
  *
- * igb_run, igb_setup and igb_table take the literals that are held: choices that have been made already. What they say is said of the setups
- * with these choices; with none held, of all.
+ * igb_run, igb_setup, igb_witness and igb_table take the literals that are held: choices that have been made already. What they say is
+ * said of the setups with these choices; with none held, of all.
  *
  * Every input is answered: what is wrong is refused with a number and a place, and nothing is undefined but what C itself asks for.
  * A pointer is valid for the length behind it, and a buffer that is written overlaps no other argument. With length 0 a pointer may
@@ -42,24 +44,29 @@ extern "C" {
 #define IGB_HELD_MAX 256      /* held literals; they count neither against IGB_CLAUSES_MAX nor against IGB_ENTRIES_MAX */
 #define IGB_LOG_ROW 6         /* numbers of a log row */
 
-/* Buffers that are long enough for every formula, in elements. Those for entries, marks and the table are also the least that is taken. */
+/* Buffers that are long enough for every formula, in elements. Those for entries, marks and texts are also the least that is
+ * taken. */
 #define IGB_ENTRIES_LEN 4096  /* int32_t, for igb_read */
 #define IGB_STATUS_LEN 256    /* uint8_t, for igb_run */
+#define IGB_CALLS_LEN 256     /* uint32_t, for igb_run */
+#define IGB_WAYS_LEN 256      /* uint8_t, for igb_run */
 #define IGB_HINTS_LEN 256     /* uint32_t, for igb_run */
 #define IGB_LOG_LEN 1542      /* uint32_t, for igb_run: a row for each variable and one more */
 #define IGB_MARKS_LEN 1024    /* uint8_t, for igb_why */
 #define IGB_VALUES_LEN 256    /* uint8_t, for igb_setup and igb_why */
+#define IGB_WITNESS_LEN 256   /* int32_t, each of the two for igb_witness */
+#define IGB_WITNESS_TEXT_LEN 4096 /* uint8_t, for igb_witness_text */
 #define IGB_TABLE_LEN 9216    /* uint8_t, for igb_table */
 
 #define IGB_STACK_BYTES 524288 /* stack that is enough for every call */
 
-/* What the program `table`, and so igb_table, gives to the run. */
+/* What the program `table`, and so igb_table, gives to the run; igb_witness_text does too. */
 #define IGB_TABLE_BUDGET 1000000
 #define IGB_TABLE_CHUNK 16
 
 /* ---- numbers */
 
-/* The answer of a reading, a run or a why. Places and indices count from 0; the place of 0, 1, 10, 13, 20, 21 and 22 is 0. */
+/* The answer of a reading, a run, a why or a witness. Places and indices count from 0; that of 0, 1, 10, 14, 20, 21 and 22 is 0. */
 enum {
     IGB_OK = 0,                /* the text is accepted; the run is settled and there is a valid setup; the clauses are marked */
     IGB_SHORT_BUFFER = 1,      /* a lent buffer is too short */
@@ -71,13 +78,13 @@ enum {
     IGB_TOKEN_OVER_VARS = 7,   /* a variable above the header's number */
     IGB_MANY_TOKENS = 8,       /* one entry more than IGB_ENTRIES_MAX */
     IGB_SHORT_TEXT = 9,        /* the text ends inside a clause or before the last one; place: text length */
-    IGB_BAD_LIMITS = 10,       /* run, why: over IGB_VARS_MAX variables; run: a chunk limit of 0 or over IGB_CHUNK_MAX */
-    IGB_BAD_LIST = 11,         /* run, why: list over IGB_ENTRIES_MAX (place IGB_ENTRIES_MAX), not ended by 0 (its length), or with
+    IGB_BAD_LIMITS = 10,       /* run, setup, why, witness: over IGB_VARS_MAX variables; run, witness: a chunk limit of 0 or over IGB_CHUNK_MAX */
+    IGB_BAD_LIST = 11,         /* these too: list over IGB_ENTRIES_MAX (place IGB_ENTRIES_MAX), not ended by 0 (its length), or with
                                   more than IGB_CLAUSES_MAX zeros (index of the first one too many) */
-    IGB_ENTRY_OVER_VARS = 12,  /* run, why: a variable above vars; place: index of the first */
-    IGB_BAD_LITERAL = 13,      /* run: a held literal is 0 or above vars; place: index of the first in the list of held literals; why: the
-                                  literal is 0 or above vars; place 0 */
-    IGB_MANY_HELD = 15,        /* run: over IGB_HELD_MAX held literals; place IGB_HELD_MAX */
+    IGB_ENTRY_OVER_VARS = 12,  /* these too: a variable above vars; place: index of the first */
+    IGB_BAD_LITERAL = 13,      /* why: the literal is 0 or above vars; run, setup, witness: a held literal is; place: its index */
+    IGB_NOT_FREE = 14,         /* witness: the variable is 0, above vars, or not marked free by the run */
+    IGB_MANY_HELD = 15,        /* run, setup, witness: over IGB_HELD_MAX held literals; place IGB_HELD_MAX */
     IGB_NO_MODEL = 20,         /* there is no valid setup */
     IGB_STOPPED = 21,          /* the budget stopped the run, and what is marked holds; or it stopped the why, and nothing is marked */
     IGB_NOT_FORCED = 22        /* why: a valid setup has the literal false */
@@ -89,6 +96,14 @@ enum {
     IGB_FREE = 1,
     IGB_FORCED_ON = 2,
     IGB_FORCED_OFF = 3
+};
+
+/* The way a variable was settled. */
+enum {
+    IGB_WAY_OPEN = 0,
+    IGB_WAY_COMPARE = 1, /* free: the call's model gives it another value than the first model */
+    IGB_WAY_FLIP = 2,    /* free: flipped alone in the call's model, it leaves all clauses true */
+    IGB_WAY_CHUNK = 3    /* forced: the call found no model where one of its chunk is false */
 };
 
 /*
@@ -156,19 +171,23 @@ igb_reading igb_read(const uint8_t *text, size_t text_len, int32_t *entries, siz
  * `budget` is how many tries of a value the whole run may take; `chunk_limit` is how many candidates one call may take at most. The
  * limit changes the number of calls and tries, and never a settled status.
  *
- * A refused run writes nothing: IGB_BAD_LIMITS, IGB_SHORT_BUFFER (status_len or hints_len below vars, or log_len below
- * IGB_LOG_ROW * (vars + 1)), IGB_BAD_LIST, IGB_ENTRY_OVER_VARS, IGB_MANY_HELD, IGB_BAD_LITERAL, in that order. Otherwise it writes
- * the first `vars` bytes of `status` and the first `vars` numbers of `hints`, those of variable v at v - 1, and the first
+ * A refused run writes nothing: IGB_BAD_LIMITS, IGB_SHORT_BUFFER (status_len, calls_len, ways_len or hints_len below vars, or log_len
+ * below IGB_LOG_ROW * (vars + 1)), IGB_BAD_LIST, IGB_ENTRY_OVER_VARS, IGB_MANY_HELD, IGB_BAD_LITERAL, in that order. Otherwise it
+ * writes the first `vars` elements of `status`, `calls`, `ways` and `hints`, those of variable v at v - 1, and the first
  * IGB_LOG_ROW * (vars + 1) numbers of `log`: the rows, then zeros. Longer buffers keep their rest. After IGB_NO_MODEL every status is
  * IGB_OPEN and the log has one row.
+ *
+ * `calls` has the number of the call that settled the variable and `ways` the way: 0 and IGB_WAY_OPEN exactly while it is open. In each
+ * row of the log IGB_LOG_COMPARED and IGB_LOG_FLIPPED are how many variables have its call and that way, and IGB_LOG_CHUNK is how many
+ * have its call and IGB_WAY_CHUNK if the row says IGB_CALL_NONE.
  *
  * A hint is the number, from 1, of the first clause that the variable, flipped alone in the run's first model, makes false; 0 if it
  * makes none false. For a forced variable it is at least 1: in that model the variable's literal is the only true one of the clause. All
  * hints are 0 if the run has no first model: after IGB_NO_MODEL, and where the budget stopped its first call.
  */
 igb_report igb_run(const int32_t *entries, size_t entries_len, uint32_t vars, const int32_t *held, size_t held_len, uint32_t budget,
-                   uint32_t chunk_limit, uint8_t *status, size_t status_len, uint32_t *hints, size_t hints_len, uint32_t *log,
-                   size_t log_len);
+                   uint32_t chunk_limit, uint8_t *status, size_t status_len, uint32_t *calls, size_t calls_len, uint8_t *ways,
+                   size_t ways_len, uint32_t *hints, size_t hints_len, uint32_t *log, size_t log_len);
 
 /*
  * One valid setup with the held literals: the first call of such a run alone. With IGB_OK the first `vars` bytes of `values` are the first
@@ -195,9 +214,28 @@ igb_why_report igb_why(const int32_t *entries, size_t entries_len, uint32_t vars
                        uint8_t *marks, size_t marks_len, uint8_t *values, size_t values_len);
 
 /*
+ * Why is a variable free? Runs as igb_run does and writes two valid setups that differ on the variable, each as `vars` literals: v for a
+ * variable that is on, -v for one that is off, that of variable v at v - 1. `first` is the run's first model; `witness` is the model of
+ * the call that settled the variable, with the variable flipped if the way is IGB_WAY_FLIP. What is returned is what the run returns; it
+ * may be IGB_STOPPED where the variable was settled before the stop.
+ *
+ * Refused it writes nothing, and all counts are 0: IGB_BAD_LIMITS, IGB_SHORT_BUFFER (first_len or witness_len below vars), IGB_BAD_LIST,
+ * IGB_ENTRY_OVER_VARS, IGB_MANY_HELD, IGB_BAD_LITERAL, IGB_NOT_FREE, in that order. Longer buffers keep their rest.
+ */
+igb_report igb_witness(const int32_t *entries, size_t entries_len, uint32_t vars, const int32_t *held, size_t held_len, uint32_t budget,
+                       uint32_t chunk_limit, uint32_t variable, int32_t *first, size_t first_len, int32_t *witness, size_t witness_len);
+
+/*
+ * Puts both setups of a text and a variable at the start of `out`, a line each: the literals with one space between, and LF. Returns
+ * their length in bytes, with no 0 behind them. Nothing is written behind them. If out_len is below IGB_WITNESS_TEXT_LEN nothing is
+ * written and 0 is returned; they are never longer. A text that is refused, or a variable that is not free, has "refused N place P".
+ */
+size_t igb_witness_text(const uint8_t *text, size_t text_len, uint32_t variable, uint8_t *out, size_t out_len);
+
+/*
  * Puts the table of a text, with literals held, at the start of `out` and returns its length in bytes: lines ended by LF, with no 0
- * behind them. Nothing is written behind the table. If out_len is below IGB_TABLE_LEN nothing is written and 0 is returned; no table is longer. A text
- * that is refused has the table "refused N place P", and so has one whose held literals are.
+ * behind them. Nothing is written behind the table. If out_len is below IGB_TABLE_LEN nothing is written and 0 is returned; no
+ * table is longer. A text that is refused has the table "refused N place P", and so has one whose held literals are.
  */
 size_t igb_table(const uint8_t *text, size_t text_len, const int32_t *held, size_t held_len, uint8_t *out, size_t out_len);
 

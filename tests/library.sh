@@ -32,7 +32,7 @@ shown=$(block 2)
 # The header says that nothing is kept between calls and what the archive asks for.
 if has nm; then
     symbols=$(nm "$archive" | awk 'NF >= 2 {print $(NF - 1), $NF}')
-    [ "$(grep -c '^T igb_' <<<"$symbols")" -eq 5 ] || { echo "library: the archive has not five functions"; exit 1; }
+    [ "$(grep -c '^T igb_' <<<"$symbols")" -eq 7 ] || { echo "library: the archive has not seven functions"; exit 1; }
     others=$(grep '^[UbBdDC] ' <<<"$symbols" | grep -v '^U mem\(cpy\|set\)$')
     [ -z "$others" ] || { echo "library: the archive has or asks for more than the header says:" $others; exit 1; }
 fi
@@ -45,7 +45,7 @@ if has gcc; then
         quietly "compiling a C++ host" g++ "${strict[@]}" -o target/c/forced_cpp -x c++ examples/forced.c -x none "$archive"
         [ "$(target/c/forced_cpp examples/surface_ring.cnf)" = "$shown" ] || { echo "library: a C++ host says something else"; exit 1; }
     fi
-    for name in interface why threads stack; do
+    for name in interface why witness threads stack; do
         quietly "compiling $name.c" gcc -std=c99 -O1 -g "${strict[@]}" -pthread -o "target/c/$name" "tests/c/$name.c" "$archive"
         "target/c/$name" || exit 1
     done
@@ -53,6 +53,7 @@ if has gcc; then
     if has valgrind; then
         quietly "interface.c under valgrind" valgrind --error-exitcode=1 --leak-check=full -q target/c/interface
         quietly "why.c under valgrind" valgrind --error-exitcode=1 --leak-check=full -q target/c/why
+        quietly "witness.c under valgrind" valgrind --error-exitcode=1 --leak-check=full -q target/c/witness
         quietly "threads.c under valgrind" valgrind --error-exitcode=1 --leak-check=full -q target/c/threads 5
         echo "library: valgrind finds nothing in the tests from C"
     fi

@@ -16,4 +16,11 @@ is_shown() {
 }
 is_shown 1 ./table examples/surface_ring.cnf
 is_shown 2 ./why examples/surface_ring.cnf 1
+# what stands behind the words "prints them" is what ./witness prints, with the words shown before
+asked=$(awk '/^    \.\/witness /{print substr($0, 5); exit}' README.md)
+pair=$(awk '/^prints them/{on = 1} on && /^    /{print substr($0, 5); seen = 1} seen && !/^    /{exit}' README.md)
+if [ -z "$pair" ] || [ "$($asked)" != "$pair" ]; then
+    echo "readme: README.md shows another pair than $asked prints"
+    exit 1
+fi
 echo "readme: the runs are as shown"

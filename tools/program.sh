@@ -1,4 +1,4 @@
-# What ./table and ./why share; it is read by them and not run.
+# What ./table, ./why and ./witness share; it is read by them and not run.
 
 # use_of WORDS: says how a program is started, and ends.
 use_of() {

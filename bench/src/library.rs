@@ -22,13 +22,15 @@ extern "C" {
 /// Buffers of the greatest sizes, lent to every run.
 pub struct Lent {
     pub status: [u8; 256],
+    pub calls: [u32; 256],
+    pub ways: [u8; 256],
     pub hints: [u32; 256],
     pub log: [u32; 6 * 257],
 }
 
 impl Lent {
     pub fn new() -> Self {
-        Lent { status: [0; 256], hints: [0; 256], log: [0; 6 * 257] }
+        Lent { status: [0; 256], calls: [0; 256], ways: [0; 256], hints: [0; 256], log: [0; 6 * 257] }
     }
 }
 
@@ -78,10 +80,10 @@ impl Who {
 
     /// A peer knows no budget, calls or tries: it gives the answer and the statuses alone.
     pub fn run(self, f: &Formula, budget: u32, chunk_limit: u32, lent: &mut Lent) -> Report {
-        let Lent { status, hints, log } = lent;
+        let Lent { status, calls, ways, hints, log } = lent;
         match self {
-            Who::Library => raw::run(&f.entries, f.vars, &[], budget, chunk_limit, status, hints, log),
-            Who::Plain => plain::run(&f.entries, f.vars, budget, chunk_limit, status, hints, log),
+            Who::Library => raw::run(&f.entries, f.vars, &[], budget, chunk_limit, status, calls, ways, hints, log),
+            Who::Plain => plain::run(&f.entries, f.vars, budget, chunk_limit, status, calls, ways, hints, log),
             // SAFETY: the pointers go with the lengths of their slices; a status byte is written for each variable, and there are at most 256.
             #[cfg(cadical)]
             Who::Cadical => unsafe {

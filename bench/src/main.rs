@@ -145,7 +145,7 @@ fn check(f: &Formula, budget: u32) -> Result<(u64, bool), Failure> {
         let mut theirs = Lent::new();
         let other = who.run(f, budget, CHUNK_LIMIT, &mut theirs);
         let agrees = if who.is_same_run() {
-            other == report && theirs.status == ours.status && theirs.hints == ours.hints && theirs.log == ours.log
+            other == report && theirs.status == ours.status && theirs.calls == ours.calls && theirs.ways == ours.ways && theirs.hints == ours.hints && theirs.log == ours.log
         } else if stopped {
             ours.status.iter().zip(&theirs.status).all(|(o, t)| *o == 0 || o == t)
         } else {

@@ -258,12 +258,13 @@ fn put_hints(clauses: &[&[i32]], model: &mut [Value], hints: &mut [u32]) {
     }
 }
 
-/// Compare, then flip: how many candidates each drops.
-fn drop_by(clauses: &[&[i32]], first: &[Value], model: &mut [Value], status: &mut [u8]) -> (u32, u32) {
+/// Compare, then flip: how many candidates each drops. The way of each is put down.
+fn drop_by(clauses: &[&[i32]], first: &[Value], model: &mut [Value], status: &mut [u8], ways: &mut [u8]) -> (u32, u32) {
     let (mut by_compare, mut by_flip) = (0, 0);
     for v in 0..model.len() {
         if status[v] == 0 && model[v] != first[v] {
             status[v] = 1;
+            ways[v] = 1;
             by_compare += 1;
         }
     }
@@ -273,6 +274,7 @@ fn drop_by(clauses: &[&[i32]], first: &[Value], model: &mut [Value], status: &mu
             model[v] = value.map(|b| !b);
             if holds(clauses, model) {
                 status[v] = 1;
+                ways[v] = 2;
                 by_flip += 1;
             }
             model[v] = value;
@@ -282,23 +284,31 @@ fn drop_by(clauses: &[&[i32]], first: &[Value], model: &mut [Value], status: &mu
 }
 
 #[inline(never)]
+#[allow(clippy::too_many_arguments)] // those of the library
 pub fn run(
     entries: &[i32],
     vars: u32,
     budget: u32,
     chunk_limit: u32,
     status: &mut [u8],
+    calls: &mut [u32],
+    ways: &mut [u8],
     hints: &mut [u32],
     log: &mut [u32],
 ) -> Report {
-    if let Some((answer, place)) = refusal(entries, vars, chunk_limit, status.len().min(hints.len()), log.len()) {
+    let shortest = status.len().min(calls.len()).min(ways.len()).min(hints.len());
+    if let Some((answer, place)) = refusal(entries, vars, chunk_limit, shortest, log.len()) {
         return Report { answer, place: place as u32, ..Report::default() };
     }
     let n = vars as usize;
     let status = &mut status[..n];
+    let calls = &mut calls[..n];
+    let ways = &mut ways[..n];
     let hints = &mut hints[..n];
     let log = &mut log[..6 * (n + 1)];
     status.fill(0);
+    calls.fill(0);
+    ways.fill(0);
     hints.fill(0);
     log.fill(0);
     let mut clauses: Vec<&[i32]> = entries.split(|&e| e == 0).collect();
@@ -338,7 +348,7 @@ pub fn run(
                     first = values.clone();
                     put_hints(&clauses, &mut values, hints);
                 }
-                let (by_compare, by_flip) = drop_by(&clauses, &first, &mut values, status);
+                let (by_compare, by_flip) = drop_by(&clauses, &first, &mut values, status, ways);
                 (row[1], row[3], row[4]) = (1, by_compare, by_flip);
                 report.free += by_compare + by_flip;
                 size = 1;
@@ -351,6 +361,7 @@ pub fn run(
                 }
                 for &v in &open {
                     status[v] = if first[v] == Some(true) { 2 } else { 3 };
+                    ways[v] = 3;
                 }
                 report.forced += chunk;
                 size = (2 * size).min(chunk_limit as usize);
@@ -360,6 +371,9 @@ pub fn run(
                 report.answer = 21;
                 return report;
             }
+        }
+        for (call, _) in calls.iter_mut().zip(&*ways).filter(|(call, &way)| **call == 0 && way != 0) {
+            *call = report.calls;
         }
         if report.forced + report.free == vars {
             return report;

@@ -13,16 +13,16 @@ typedef struct {
     const int32_t *entries;
     size_t entries_len;
     uint32_t vars, budget, chunk_limit;
-    uint8_t status[IGB_STATUS_LEN];
-    uint32_t hints[IGB_HINTS_LEN], log[IGB_LOG_LEN];
+    uint8_t status[IGB_STATUS_LEN], ways[IGB_WAYS_LEN];
+    uint32_t calls[IGB_CALLS_LEN], hints[IGB_HINTS_LEN], log[IGB_LOG_LEN];
 } task;
 
 static void *nothing(void *given) { return given; }
 
 static void *one_run(void *given) {
     task *t = given;
-    igb_run(t->entries, t->entries_len, t->vars, NULL, 0, t->budget, t->chunk_limit, t->status, IGB_STATUS_LEN, t->hints, IGB_HINTS_LEN,
-            t->log, IGB_LOG_LEN);
+    igb_run(t->entries, t->entries_len, t->vars, NULL, 0, t->budget, t->chunk_limit, t->status, IGB_STATUS_LEN, t->calls, IGB_CALLS_LEN,
+            t->ways, IGB_WAYS_LEN, t->hints, IGB_HINTS_LEN, t->log, IGB_LOG_LEN);
     return given;
 }
 

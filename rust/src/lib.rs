@@ -2,12 +2,12 @@
 //!
 //! A card's rules are a DIMACS CNF text, one variable a switch. [`read`] takes the text, [`Formula::run`] works out the status of every
 //! switch, [`Formula::run_held`] the same where some choices are made, [`Formula::setup`] finds one valid setup, [`Formula::why`] says which
-//! rules force a switch, and [`table`] prints the statuses as the program `table` does. What breaks the rules is refused: [`Refusal`] says by
-//! which rule and
-//! where. The answers are those of a proved library, which this crate links; [`raw`] has its functions as they are.
+//! rules force a switch, [`Formula::witness`] has two setups that differ on a free one, and [`table`] prints the statuses as the program
+//! `table` does. What breaks the rules is refused: [`Refusal`] says by which rule and where. The answers are those of a proved library, which
+//! this crate links; [`raw`] has its functions as they are.
 //!
 //! ```
-//! use igbezolum::{read, End, Found, Limits, Status};
+//! use igbezolum::{read, End, Found, Limits, Settled, Status, Way};
 //!
 //! let card = read(b"p cnf 2 2\n1 2 0 1 -2 0\n")?;
 //! let run = card.run(Limits::default())?;
@@ -17,6 +17,8 @@
 //! assert_eq!(run.held_by(1), Some(1));
 //! let Found::Reason(reason) = card.why(1, 1_000_000)?.found else { panic!("1 is forced") };
 //! assert_eq!(reason.clauses.iter().map(|clause| clause.number).collect::<Vec<_>>(), [1, 2]);
+//! assert_eq!(run.settled(2), Some(Settled { status: Status::Free, call: 1, way: Way::Flip }));
+//! assert_eq!(card.witness(2, Limits::default())?, (vec![true, false], vec![true, true]));
 //! # Ok::<(), igbezolum::Refusal>(())
 //! ```
 
@@ -27,10 +29,12 @@ pub mod raw;
 mod refusal;
 mod run;
 mod why;
+mod witness;
 
 pub use refusal::Refusal;
-pub use run::{CallEnd, End, Limits, LogRow, Run, Setup, Status};
+pub use run::{CallEnd, End, Limits, LogRow, Run, Settled, Setup, Status, Way};
 pub use why::{Choice, Found, Kept, Reason, Why};
+pub use witness::witness_text;
 
 /// Bytes of a text, at most.
 pub const TEXT_MAX: usize = 32_768;
@@ -42,6 +46,8 @@ pub const CLAUSES_MAX: usize = 1_024;
 pub const ENTRIES_MAX: usize = 4_096;
 /// Held literals, at most.
 pub const HELD_MAX: usize = 256;
+/// Bytes of both printed setups of a witness, at most.
+pub const WITNESS_TEXT_MAX: usize = 4_096;
 /// Bytes of a printed table, at most.
 pub const TABLE_MAX: usize = 9_216;
 

@@ -64,6 +64,10 @@ mod c {
             chunk_limit: u32,
             status: *mut u8,
             status_len: usize,
+            calls: *mut u32,
+            calls_len: usize,
+            ways: *mut u8,
+            ways_len: usize,
             hints: *mut u32,
             hints_len: usize,
             log: *mut u32,
@@ -90,11 +94,26 @@ mod c {
             values: *mut u8,
             values_len: usize,
         ) -> WhyReport;
+        pub fn igb_witness(
+            entries: *const i32,
+            entries_len: usize,
+            vars: u32,
+            held: *const i32,
+            held_len: usize,
+            budget: u32,
+            chunk_limit: u32,
+            variable: u32,
+            first: *mut i32,
+            first_len: usize,
+            witness: *mut i32,
+            witness_len: usize,
+        ) -> Report;
+        pub fn igb_witness_text(text: *const u8, text_len: usize, variable: u32, out: *mut u8, out_len: usize) -> usize;
         pub fn igb_table(text: *const u8, text_len: usize, held: *const i32, held_len: usize, out: *mut u8, out_len: usize) -> usize;
     }
 }
 
-// In all four: the C functions ask for pointers that are valid for their lengths and for written buffers that overlap no other
+// In all seven: the C functions ask for pointers that are valid for their lengths and for written buffers that overlap no other
 // argument. Slices are that, and a `&mut` one overlaps nothing. The functions keep no pointer, and every input is answered.
 
 /// Reads a text. With 4,096 entries or more the first 4,096 are written: the list and then zeros; with fewer, or after 2, nothing is.
@@ -103,7 +122,9 @@ pub fn read(text: &[u8], entries: &mut [i32]) -> Reading {
     unsafe { c::igb_read(text.as_ptr(), text.len(), entries.as_mut_ptr(), entries.len()) }
 }
 
-/// Runs on a list with literals held. If it is not refused, the first `vars` statuses and hints and the first `6 * (vars + 1)` log numbers are written.
+/// Runs on a list with literals held. If it is not refused, the first `vars` statuses, calls, ways and hints and the first `6 * (vars + 1)`
+/// log numbers are written.
+#[allow(clippy::too_many_arguments)] // those of the C function
 pub fn run(
     entries: &[i32],
     vars: u32,
@@ -111,13 +132,43 @@ pub fn run(
     budget: u32,
     chunk_limit: u32,
     status: &mut [u8],
+    calls: &mut [u32],
+    ways: &mut [u8],
     hints: &mut [u32],
     log: &mut [u32],
 ) -> Report {
     let (s, h, l) = (status.as_mut_ptr(), hints.as_mut_ptr(), log.as_mut_ptr());
+    let (q, w) = (calls.as_mut_ptr(), ways.as_mut_ptr());
+    let (e, n, k, m) = (entries.as_ptr(), entries.len(), held.as_ptr(), held.len());
+    let (a, b, d, f, g) = (status.len(), calls.len(), ways.len(), hints.len(), log.len());
+    // SAFETY: as said above.
+    unsafe { c::igb_run(e, n, vars, k, m, budget, chunk_limit, s, a, q, b, w, d, h, f, l, g) }
+}
+
+/// The first model of a run and the witness of a free variable. If it is not refused, the first `vars` literals of both buffers are
+/// written.
+#[allow(clippy::too_many_arguments)] // those of the C function
+pub fn witness(
+    entries: &[i32],
+    vars: u32,
+    held: &[i32],
+    budget: u32,
+    chunk_limit: u32,
+    variable: u32,
+    first: &mut [i32],
+    witness: &mut [i32],
+) -> Report {
+    let (f, w) = (first.as_mut_ptr(), witness.as_mut_ptr());
     let (e, n, k, m) = (entries.as_ptr(), entries.len(), held.as_ptr(), held.len());
     // SAFETY: as said above.
-    unsafe { c::igb_run(e, n, vars, k, m, budget, chunk_limit, s, status.len(), h, hints.len(), l, log.len()) }
+    unsafe { c::igb_witness(e, n, vars, k, m, budget, chunk_limit, variable, f, first.len(), w, witness.len()) }
+}
+
+/// Puts the first model and the witness of a variable, a line each, at the start of a buffer and answers their length; 0, and nothing is
+/// written, if there is no room for 4,096 bytes.
+pub fn witness_text(text: &[u8], variable: u32, out: &mut [u8]) -> usize {
+    // SAFETY: as said above.
+    unsafe { c::igb_witness_text(text.as_ptr(), text.len(), variable, out.as_mut_ptr(), out.len()) }
 }
 
 /// Why a literal is forced. If it is not refused, the first 1,024 marks and the first `vars` values are written.

@@ -62,13 +62,15 @@ pub enum Refusal {
         /// 0 for the literal that is asked about; of held literals the index of the first one.
         index: usize,
     },
+    /// 14: the variable is not free in the run: 0, above the formula's number, forced, or open.
+    NotFree,
     /// 15: over 256 held literals.
     ManyHeld,
 }
 
 use Refusal::{
-    BadHeader, BadLimits, BadList, BadLiteral, BadToken, EntryOverVars, LargeHeader, LongText, ManyHeld, ManyTokens, ShortBuffer, ShortText,
-    TokenBehind, TokenOverVars,
+    BadHeader, BadLimits, BadList, BadLiteral, BadToken, EntryOverVars, LargeHeader, LongText, ManyHeld, ManyTokens, NotFree, ShortBuffer,
+    ShortText, TokenBehind, TokenOverVars,
 };
 
 impl Refusal {
@@ -90,12 +92,13 @@ impl Refusal {
             11 => BadList { index },
             12 => EntryOverVars { index },
             13 => BadLiteral { index },
+            14 => NotFree,
             15 => ManyHeld,
             _ => return None,
         })
     }
 
-    /// The number of the rule, 1 to 13 or 15.
+    /// The number of the rule, 1 to 15.
     #[must_use]
     pub fn number(self) -> u32 {
         match self {
@@ -112,6 +115,7 @@ impl Refusal {
             BadList { .. } => 11,
             EntryOverVars { .. } => 12,
             BadLiteral { .. } => 13,
+            NotFree => 14,
             ManyHeld => 15,
         }
     }
@@ -120,7 +124,7 @@ impl Refusal {
     #[must_use]
     pub fn place(self) -> usize {
         match self {
-            ShortBuffer | BadLimits => 0,
+            ShortBuffer | BadLimits | NotFree => 0,
             LongText => crate::TEXT_MAX,
             BadHeader { byte }
             | LargeHeader { byte }
@@ -151,6 +155,7 @@ impl fmt::Display for Refusal {
             ManyHeld => "over 256 held literals",
             BadList { .. } => "the list is too long, not ended by 0, or has a 1,025th zero",
             BadLiteral { .. } => "a literal that is 0 or above the number of variables",
+            NotFree => "the variable is not free",
         };
         write!(f, "refused {} place {}: {what}", self.number(), self.place())
     }

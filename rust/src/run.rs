@@ -45,6 +45,30 @@ pub enum Status {
     ForcedOff,
 }
 
+/// The way a variable was settled.
+#[derive(Clone, Copy, Debug, PartialEq, Eq, Hash)]
+pub enum Way {
+    /// Not settled.
+    Open,
+    /// Free: the call's model gives it another value than the first model.
+    Compare,
+    /// Free: flipped alone in the call's model, it leaves all clauses true.
+    Flip,
+    /// Forced: the call found no model where one of its chunk is false.
+    Chunk,
+}
+
+/// How a variable was settled.
+#[derive(Clone, Copy, Debug, PartialEq, Eq)]
+pub struct Settled {
+    /// Its status.
+    pub status: Status,
+    /// The call that settled it, from 1; 0 while it is open.
+    pub call: u32,
+    /// The way.
+    pub way: Way,
+}
+
 /// How a call of the search ended.
 #[derive(Clone, Copy, Debug, PartialEq, Eq, Hash)]
 pub enum CallEnd {
@@ -80,6 +104,10 @@ pub struct Run {
     pub tries: u32,
     /// The status of each variable; that of variable v is at v - 1.
     pub status: Vec<Status>,
+    /// The call that settled each variable, that of variable v at v - 1; 0 while it is open.
+    pub calls: Vec<u32>,
+    /// The way each variable was settled, that of variable v at v - 1.
+    pub ways: Vec<Way>,
     /// The hint of each variable, that of variable v at v - 1: the number of the first clause that v, flipped alone in the first model,
     /// makes false; 0 if it makes none false, or if no first model was found.
     pub hints: Vec<u32>,
@@ -108,6 +136,13 @@ impl Run {
         }
     }
 
+    /// How a variable was settled: its status, the call and the way. None for numbers that are no variable's.
+    #[must_use]
+    pub fn settled(&self, variable: u32) -> Option<Settled> {
+        let i = variable.checked_sub(1)? as usize;
+        Some(Settled { status: *self.status.get(i)?, call: self.calls[i], way: self.ways[i] })
+    }
+
     /// The free variables in order.
     pub fn free(&self) -> impl Iterator<Item = u32> + '_ {
         (1..).zip(&self.status).filter(|(_, &status)| status == Status::Free).map(|(v, _)| v)
@@ -121,6 +156,16 @@ fn status_of(number: u8) -> Status {
         2 => Status::ForcedOn,
         3 => Status::ForcedOff,
         _ => unreachable!("no status {number}"),
+    }
+}
+
+fn way_of(number: u8) -> Way {
+    match number {
+        0 => Way::Open,
+        1 => Way::Compare,
+        2 => Way::Flip,
+        3 => Way::Chunk,
+        _ => unreachable!("no way {number}"),
     }
 }
 
@@ -164,10 +209,13 @@ pub fn setup(formula: &Formula, held: &[i32], budget: u32) -> Result<Setup, Refu
 pub fn run(formula: &Formula, held: &[i32], limits: Limits) -> Result<Run, Refusal> {
     // long enough for every formula that is not refused
     let mut status = [0; VARS_MAX];
+    let mut calls = [0; VARS_MAX];
+    let mut ways = [0; VARS_MAX];
     let mut hints = [0; VARS_MAX];
     let mut log = [0; ROW * (VARS_MAX + 1)];
     let Limits { budget, chunk_limit } = limits;
-    let report = raw::run(formula.entries(), formula.vars(), held, budget, chunk_limit, &mut status, &mut hints, &mut log);
+    let (entries, vars) = (formula.entries(), formula.vars());
+    let report = raw::run(entries, vars, held, budget, chunk_limit, &mut status, &mut calls, &mut ways, &mut hints, &mut log);
     if let Some(refusal) = Refusal::of(report.answer, report.place) {
         return Err(refusal);
     }
@@ -177,11 +225,14 @@ pub fn run(formula: &Formula, held: &[i32], limits: Limits) -> Result<Run, Refus
         21 => End::Stopped,
         other => unreachable!("no answer {other}"),
     };
+    let n = vars as usize;
     Ok(Run {
         end,
         tries: report.tries,
-        status: status[..formula.vars() as usize].iter().map(|&s| status_of(s)).collect(),
-        hints: hints[..formula.vars() as usize].to_vec(),
+        status: status[..n].iter().map(|&s| status_of(s)).collect(),
+        calls: calls[..n].to_vec(),
+        ways: ways[..n].iter().map(|&w| way_of(w)).collect(),
+        hints: hints[..n].to_vec(),
         log: log.chunks(ROW).take(report.calls as usize).map(row_of).collect(),
     })
 }

@@ -76,18 +76,18 @@ fn held_literals_are_refused() {
 
 #[test]
 fn numbers_and_variants_go_together() {
-    for answer in (1..=13).chain([15]) {
-        let refusal = Refusal::of(answer, 5).expect("1 to 13 and 15 are refusals");
+    for answer in 1..=15 {
+        let refusal = Refusal::of(answer, 5).expect("1 to 15 are refusals");
         assert_eq!(refusal.number(), answer);
         let place = match answer {
-            1 | 10 => 0,
+            1 | 10 | 14 => 0,
             2 => TEXT_MAX,
             15 => HELD_MAX,
             _ => 5,
         };
         assert_eq!(refusal.place(), place);
     }
-    assert_eq!([0, 14, 20, 21, 22].map(|answer| Refusal::of(answer, 0)), [None; 5]);
+    assert_eq!([0, 16, 20, 21, 22].map(|answer| Refusal::of(answer, 0)), [None; 5]);
 }
 
 #[test]
@@ -110,15 +110,17 @@ fn a_lent_buffer_is_too_short() {
     assert_eq!(raw::read(text, &mut entries), raw::Reading { answer: 1, place: 0, vars: 0, clauses: 0, count: 0 });
     assert!(entries.iter().all(|&e| e == 7));
 
-    let (mut status, mut hints, mut log) = ([7; 1], [7; 1], [7; 12]);
+    let (mut status, mut calls, mut ways, mut hints, mut log) = ([7; 1], [7; 1], [7; 1], [7; 1], [7; 12]);
     let refused = raw::Report { answer: 1, place: 0, calls: 0, tries: 0, forced: 0, free: 0 };
-    assert_eq!(raw::run(&[1, 0], 1, &[], 100, 1, &mut [], &mut hints, &mut log), refused);
-    assert_eq!(raw::run(&[1, 0], 1, &[], 100, 1, &mut status, &mut [], &mut log), refused);
-    assert_eq!(raw::run(&[1, 0], 1, &[], 100, 1, &mut status, &mut hints, &mut log[..11]), refused);
-    assert_eq!((status, hints, log), ([7; 1], [7; 1], [7; 12]));
+    assert_eq!(raw::run(&[1, 0], 1, &[], 100, 1, &mut [], &mut calls, &mut ways, &mut hints, &mut log), refused);
+    assert_eq!(raw::run(&[1, 0], 1, &[], 100, 1, &mut status, &mut [], &mut ways, &mut hints, &mut log), refused);
+    assert_eq!(raw::run(&[1, 0], 1, &[], 100, 1, &mut status, &mut calls, &mut [], &mut hints, &mut log), refused);
+    assert_eq!(raw::run(&[1, 0], 1, &[], 100, 1, &mut status, &mut calls, &mut ways, &mut [], &mut log), refused);
+    assert_eq!(raw::run(&[1, 0], 1, &[], 100, 1, &mut status, &mut calls, &mut ways, &mut hints, &mut log[..11]), refused);
+    assert_eq!((status, calls, ways, hints, log), ([7; 1], [7; 1], [7; 1], [7; 1], [7; 12]));
     let forced = raw::Report { answer: 0, place: 0, calls: 2, tries: 0, forced: 1, free: 0 };
-    assert_eq!(raw::run(&[1, 0], 1, &[], 100, 1, &mut status, &mut hints, &mut log), forced);
-    assert_eq!((status, hints, log), ([2], [1], [1, 1, 0, 0, 0, 0, 2, 2, 1, 0, 0, 0]));
+    assert_eq!(raw::run(&[1, 0], 1, &[], 100, 1, &mut status, &mut calls, &mut ways, &mut hints, &mut log), forced);
+    assert_eq!((status, calls, ways, hints, log), ([2], [2], [3], [1], [1, 1, 0, 0, 0, 0, 2, 2, 1, 0, 0, 0]));
 
     let mut out = vec![7; TABLE_MAX];
     assert_eq!(raw::table(text, &[], &mut out[1..]), 0);

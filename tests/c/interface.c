@@ -150,12 +150,14 @@ static given holding(given g, const int32_t *held, size_t held_len)
 
 /* How much room a run is lent. */
 typedef struct {
-    size_t status, hints, log;
+    size_t status, calls, ways, hints, log;
 } lengths;
 
 /* What must stand in the buffers of a run that is not refused: `rows` has six numbers for each call. */
 typedef struct {
     const uint8_t *status;
+    const uint32_t *calls;
+    const uint8_t *ways;
     const uint32_t *hints, *rows;
 } filled;
 
@@ -165,14 +167,18 @@ static void runs(const char *what, given g, lengths lens, igb_report expected, f
     size_t log_bytes = refused ? 0 : IGB_LOG_ROW * (g.vars + 1) * sizeof(uint32_t);
     for (size_t k = 0; k < LEN(paints); k++) {
         painted s = paint(lens.status, paints[k]), l = paint(lens.log * sizeof(uint32_t), paints[k] + 7);
+        painted c = paint(lens.calls * sizeof(uint32_t), paints[k] + 1), w = paint(lens.ways, paints[k] + 2);
         painted h = paint(lens.hints * sizeof(uint32_t), paints[k] + 3);
         int32_t *lent = copied(g.list, g.len * sizeof(int32_t)), *held = copied(g.held, g.held_len * sizeof(int32_t));
         igb_report got = igb_run(lent, g.len, g.vars, held, g.held_len, g.budget, g.chunk_limit, s.start, lens.status,
-                                 (uint32_t *)(void *)h.start, lens.hints, (uint32_t *)(void *)l.start, lens.log);
+                                 (uint32_t *)(void *)c.start, lens.calls, w.start, lens.ways, (uint32_t *)(void *)h.start, lens.hints,
+                                 (uint32_t *)(void *)l.start, lens.log);
         CHECK(memcmp(&got, &expected, sizeof got) == 0, what);
         CHECK(g.len == 0 || memcmp(lent, g.list, g.len * sizeof(int32_t)) == 0, what);
         CHECK(g.held_len == 0 || memcmp(held, g.held, g.held_len * sizeof(int32_t)) == 0, what);
         CHECK(kept(&s, refused ? 0 : g.vars), what);
+        CHECK(kept(&c, refused ? 0 : g.vars * sizeof(uint32_t)), what);
+        CHECK(kept(&w, refused ? 0 : g.vars), what);
         CHECK(kept(&h, refused ? 0 : g.vars * sizeof(uint32_t)), what);
         CHECK(kept(&l, log_bytes), what);
         if (!refused) {
@@ -180,6 +186,8 @@ static void runs(const char *what, given g, lengths lens, igb_report expected, f
             if (full)
                 memcpy(full, want.rows, expected.calls * IGB_LOG_ROW * sizeof(uint32_t));
             CHECK(g.vars == 0 || memcmp(s.start, want.status, g.vars) == 0, what);
+            CHECK(g.vars == 0 || memcmp(c.start, want.calls, g.vars * sizeof(uint32_t)) == 0, what);
+            CHECK(g.vars == 0 || memcmp(w.start, want.ways, g.vars) == 0, what);
             CHECK(g.vars == 0 || memcmp(h.start, want.hints, g.vars * sizeof(uint32_t)) == 0, what);
             CHECK(full && memcmp(l.start, full, log_bytes) == 0, what);
             free(full);
@@ -187,15 +195,18 @@ static void runs(const char *what, given g, lengths lens, igb_report expected, f
         free(lent);
         free(held);
         drop(&s);
+        drop(&c);
+        drop(&w);
         drop(&h);
         drop(&l);
     }
 }
 
-/* With `vars` statuses and hints, and so many log numbers. */
+/* With `vars` statuses, calls, ways and hints, and so many log numbers. */
 static void refuses_run(const char *what, given g, size_t vars, size_t log_len, uint32_t answer, uint32_t place)
 {
-    runs(what, g, (lengths){vars, vars, log_len}, (igb_report){answer, place, 0, 0, 0, 0}, (filled){NULL, NULL, NULL});
+    runs(what, g, (lengths){vars, vars, vars, vars, log_len}, (igb_report){answer, place, 0, 0, 0, 0},
+         (filled){NULL, NULL, NULL, NULL, NULL});
 }
 
 /* A run with exact room, with more, and with an element too few in each buffer. */
@@ -203,13 +214,15 @@ static void runs_list(const char *what, given g, igb_report expected, filled wan
 {
     size_t n = g.vars, log_len = IGB_LOG_ROW * (n + 1);
     const igb_report refused = {IGB_SHORT_BUFFER, 0, 0, 0, 0, 0};
-    runs(what, g, (lengths){n, n, log_len}, expected, want);
-    runs(what, g, (lengths){n + 5, n + 3, log_len + 11}, expected, want);
+    runs(what, g, (lengths){n, n, n, n, log_len}, expected, want);
+    runs(what, g, (lengths){n + 5, n + 1, n + 2, n + 3, log_len + 11}, expected, want);
     if (n) {
-        runs(what, g, (lengths){n - 1, n, log_len}, refused, want);
-        runs(what, g, (lengths){n, n - 1, log_len}, refused, want);
+        runs(what, g, (lengths){n - 1, n, n, n, log_len}, refused, want);
+        runs(what, g, (lengths){n, n - 1, n, n, log_len}, refused, want);
+        runs(what, g, (lengths){n, n, n - 1, n, log_len}, refused, want);
+        runs(what, g, (lengths){n, n, n, n - 1, log_len}, refused, want);
     }
-    runs(what, g, (lengths){n, n, log_len - 1}, refused, want);
+    runs(what, g, (lengths){n, n, n, n, log_len - 1}, refused, want);
 }
 
 /* The small formulas of the rules, whole. */
@@ -220,27 +233,29 @@ typedef struct {
     uint32_t vars, budget, chunk_limit;
     igb_report expected;
     uint8_t status[3];
+    uint32_t calls[3];
+    uint8_t ways[3];
     uint32_t hints[3];
     uint32_t rows[4 * IGB_LOG_ROW];
 } small;
 
 static const small smalls[] = {
-    {"0, none", 0, {0}, 0, 100, 2, {0, 0, 1, 0, 0, 0}, {0}, {0}, {1, 1, 0, 0, 0, 0}},
-    {"0, `0`", 1, {0}, 0, 100, 2, {20, 0, 1, 0, 0, 0}, {0}, {0}, {1, 2, 0, 0, 0, 0}},
-    {"1, none", 0, {0}, 1, 100, 2, {0, 0, 1, 1, 0, 1}, {1}, {0}, {1, 1, 0, 0, 1, 1}},
-    {"1, none, budget 0", 0, {0}, 1, 0, 2, {21, 0, 1, 0, 0, 0}, {0}, {0}, {1, 3, 0, 0, 0, 0}},
-    {"`1 0`", 2, {1, 0}, 1, 100, 2, {0, 0, 2, 0, 1, 0}, {2}, {1}, {1, 1, 0, 0, 0, 0, 2, 2, 1, 0, 0, 0}},
-    {"`1 1 0`", 3, {1, 1, 0}, 1, 100, 2, {0, 0, 2, 0, 1, 0}, {2}, {1}, {1, 1, 0, 0, 0, 0, 2, 2, 1, 0, 0, 0}},
-    {"`1 -1 0`", 3, {1, -1, 0}, 1, 100, 2, {0, 0, 1, 1, 0, 1}, {1}, {0}, {1, 1, 0, 0, 1, 1}},
-    {"`1 0 -1 0`", 4, {1, 0, -1, 0}, 1, 100, 2, {20, 0, 1, 0, 0, 0}, {0}, {0}, {1, 2, 0, 0, 0, 0}},
-    {"`1 2 0 -1 -2 0`", 6, {1, 2, 0, -1, -2, 0}, 2, 100, 2, {0, 0, 2, 1, 0, 2}, {1, 1}, {2, 1}, {1, 1, 0, 0, 0, 1, 2, 1, 1, 2, 0, 0}},
-    {"`1 2 0 1 -2 0`", 6, {1, 2, 0, 1, -2, 0}, 2, 100, 2, {0, 0, 2, 3, 1, 1}, {2, 1}, {1, 0}, {1, 1, 0, 0, 1, 3, 2, 2, 1, 0, 0, 0}},
-    {"`1 0 2 0 3 0`", 6, {1, 0, 2, 0, 3, 0}, 3, 100, 2, {0, 0, 3, 0, 3, 0}, {2, 2, 2}, {1, 2, 3},
+    {"0, none", 0, {0}, 0, 100, 2, {0, 0, 1, 0, 0, 0}, {0}, {0}, {0}, {0}, {1, 1, 0, 0, 0, 0}},
+    {"0, `0`", 1, {0}, 0, 100, 2, {20, 0, 1, 0, 0, 0}, {0}, {0}, {0}, {0}, {1, 2, 0, 0, 0, 0}},
+    {"1, none", 0, {0}, 1, 100, 2, {0, 0, 1, 1, 0, 1}, {1}, {1}, {2}, {0}, {1, 1, 0, 0, 1, 1}},
+    {"1, none, budget 0", 0, {0}, 1, 0, 2, {21, 0, 1, 0, 0, 0}, {0}, {0}, {0}, {0}, {1, 3, 0, 0, 0, 0}},
+    {"`1 0`", 2, {1, 0}, 1, 100, 2, {0, 0, 2, 0, 1, 0}, {2}, {2}, {3}, {1}, {1, 1, 0, 0, 0, 0, 2, 2, 1, 0, 0, 0}},
+    {"`1 1 0`", 3, {1, 1, 0}, 1, 100, 2, {0, 0, 2, 0, 1, 0}, {2}, {2}, {3}, {1}, {1, 1, 0, 0, 0, 0, 2, 2, 1, 0, 0, 0}},
+    {"`1 -1 0`", 3, {1, -1, 0}, 1, 100, 2, {0, 0, 1, 1, 0, 1}, {1}, {1}, {2}, {0}, {1, 1, 0, 0, 1, 1}},
+    {"`1 0 -1 0`", 4, {1, 0, -1, 0}, 1, 100, 2, {20, 0, 1, 0, 0, 0}, {0}, {0}, {0}, {0}, {1, 2, 0, 0, 0, 0}},
+    {"`1 2 0 -1 -2 0`", 6, {1, 2, 0, -1, -2, 0}, 2, 100, 2, {0, 0, 2, 1, 0, 2}, {1, 1}, {2, 2}, {1, 1}, {2, 1}, {1, 1, 0, 0, 0, 1, 2, 1, 1, 2, 0, 0}},
+    {"`1 2 0 1 -2 0`", 6, {1, 2, 0, 1, -2, 0}, 2, 100, 2, {0, 0, 2, 3, 1, 1}, {2, 1}, {2, 1}, {3, 2}, {1, 0}, {1, 1, 0, 0, 1, 3, 2, 2, 1, 0, 0, 0}},
+    {"`1 0 2 0 3 0`", 6, {1, 0, 2, 0, 3, 0}, 3, 100, 2, {0, 0, 3, 0, 3, 0}, {2, 2, 2}, {2, 3, 3}, {3, 3, 3}, {1, 2, 3},
      {1, 1, 0, 0, 0, 0, 2, 2, 1, 0, 0, 0, 3, 2, 2, 0, 0, 0}},
-    {"`1 0 2 0 3 0`, chunk limit 1", 6, {1, 0, 2, 0, 3, 0}, 3, 100, 1, {0, 0, 4, 0, 3, 0}, {2, 2, 2}, {1, 2, 3},
+    {"`1 0 2 0 3 0`, chunk limit 1", 6, {1, 0, 2, 0, 3, 0}, 3, 100, 1, {0, 0, 4, 0, 3, 0}, {2, 2, 2}, {2, 3, 4}, {3, 3, 3}, {1, 2, 3},
      {1, 1, 0, 0, 0, 0, 2, 2, 1, 0, 0, 0, 3, 2, 1, 0, 0, 0, 4, 2, 1, 0, 0, 0}},
-    {"`1 2 3 0`", 4, {1, 2, 3, 0}, 3, 100, 2, {0, 0, 2, 3, 0, 3}, {1, 1, 1}, {0, 0, 1}, {1, 1, 0, 0, 2, 2, 2, 1, 1, 1, 0, 1}},
-    {"`1 2 3 0`, budget 2", 4, {1, 2, 3, 0}, 3, 2, 2, {21, 0, 2, 2, 0, 2}, {1, 1, 0}, {0, 0, 1}, {1, 1, 0, 0, 2, 2, 2, 3, 1, 0, 0, 0}},
+    {"`1 2 3 0`", 4, {1, 2, 3, 0}, 3, 100, 2, {0, 0, 2, 3, 0, 3}, {1, 1, 1}, {1, 1, 2}, {2, 2, 1}, {0, 0, 1}, {1, 1, 0, 0, 2, 2, 2, 1, 1, 1, 0, 1}},
+    {"`1 2 3 0`, budget 2", 4, {1, 2, 3, 0}, 3, 2, 2, {21, 0, 2, 2, 0, 2}, {1, 1, 0}, {1, 1, 0}, {2, 2, 0}, {0, 0, 1}, {1, 1, 0, 0, 2, 2, 2, 3, 1, 0, 0, 0}},
 };
 
 static void runnings(void)
@@ -248,7 +263,7 @@ static void runnings(void)
     for (size_t i = 0; i < LEN(smalls); i++) {
         const small *s = &smalls[i];
         runs_list(s->what, plain(s->list, s->len, s->vars, s->budget, s->chunk_limit), s->expected,
-                  (filled){s->status, s->hints, s->rows});
+                  (filled){s->status, s->calls, s->ways, s->hints, s->rows});
     }
     static const int32_t unit[] = {1, 0}, not_ended[] = {1, 0, -1}, above[] = {1, 0, 2, 0, 3, 0}, least[] = {1, INT32_MIN, 0, -2, 0};
     static const int32_t both[] = {2, 0, 2};
@@ -268,10 +283,10 @@ static void runnings(void)
 
     static int32_t many[IGB_ENTRIES_MAX + 1];
     static const uint32_t none[] = {1, 2, 0, 0, 0, 0}, forced[] = {1, 1, 0, 0, 0, 0, 2, 2, 1, 0, 0, 0};
-    static const uint32_t zeros[IGB_HINTS_LEN], one[] = {1};
-    const uint8_t on = IGB_FORCED_ON, open = IGB_OPEN;
+    static const uint32_t zeros[IGB_HINTS_LEN], one[] = {1}, two[] = {2};
+    const uint8_t on = IGB_FORCED_ON, open = IGB_OPEN, chunk = IGB_WAY_CHUNK;
     runs_list("1,024 zeros", plain(many, 1024, 1, 100, 2), (igb_report){IGB_NO_MODEL, 0, 1, 0, 0, 0},
-              (filled){&open, zeros, none});
+              (filled){&open, zeros, &open, zeros, none});
     refuses_run("a 1,025th zero", plain(many, 1025, 1, 100, 2), 1, 12, IGB_BAD_LIST, 1024);
     many[1500] = 2;
     refuses_run("a 1,025th zero before a variable above", plain(many, 4096, 1, 100, 2), 1, 12, IGB_BAD_LIST, 1024);
@@ -281,13 +296,17 @@ static void runnings(void)
     refuses_run("4,096 entries and no 0", plain(many, 4096, 1, 100, 2), 1, 12, IGB_BAD_LIST, 4096);
     many[IGB_ENTRIES_MAX - 1] = 0;
     runs_list("4,096 entries", plain(many, 4096, 1, 100, 256), (igb_report){IGB_OK, 0, 2, 0, 1, 0},
-              (filled){&on, one, forced});
+              (filled){&on, two, &chunk, one, forced});
 
-    uint8_t all[IGB_STATUS_LEN];
+    uint8_t all[IGB_STATUS_LEN], flips[IGB_WAYS_LEN];
+    uint32_t ones[IGB_CALLS_LEN];
     memset(all, IGB_FREE, sizeof all);
+    memset(flips, IGB_WAY_FLIP, sizeof flips);
+    for (size_t i = 0; i < IGB_CALLS_LEN; i++)
+        ones[i] = 1;
     static const uint32_t once[] = {1, 1, 0, 0, 256, 256};
     runs_list("256 variables", plain(NULL, 0, 256, UINT32_MAX, 256), (igb_report){IGB_OK, 0, 1, 256, 0, 256},
-              (filled){all, zeros, once});
+              (filled){all, ones, flips, zeros, once});
 }
 
 /* ---- held literals */
@@ -298,27 +317,30 @@ static void holdings(void)
     static const int32_t on[] = {1}, both[] = {1, -1}, off[] = {-1}, two_off[] = {-1, -2}, twice[] = {-1, -1};
     static const int32_t zero[] = {1, 0}, over[] = {-1, 1, -2, 0}, least[] = {INT32_MIN};
     const given nothing = plain(NULL, 0, 1, 100, 2);
-    const uint8_t forced_on = IGB_FORCED_ON, forced_off = IGB_FORCED_OFF, open[2] = {IGB_OPEN, IGB_OPEN};
-    static const uint32_t one[] = {1}, none[2] = {0, 0}, call[] = {1, 2, 0, 0, 0, 0};
+    const uint8_t forced_on = IGB_FORCED_ON, forced_off = IGB_FORCED_OFF, chunk = IGB_WAY_CHUNK, open[2] = {IGB_OPEN, IGB_OPEN};
+    static const uint32_t one[] = {1}, second[] = {2}, none[2] = {0, 0}, call[] = {1, 2, 0, 0, 0, 0};
     static const uint32_t calls[] = {1, 1, 0, 0, 0, 0, 2, 2, 1, 0, 0, 0};
-    runs_list("1 held", holding(nothing, on, 1), (igb_report){IGB_OK, 0, 2, 0, 1, 0}, (filled){&forced_on, one, calls});
-    runs_list("-1 held twice", holding(nothing, twice, 2), (igb_report){IGB_OK, 0, 2, 0, 1, 0}, (filled){&forced_off, one, calls});
+    runs_list("1 held", holding(nothing, on, 1), (igb_report){IGB_OK, 0, 2, 0, 1, 0}, (filled){&forced_on, second, &chunk, one, calls});
+    runs_list("-1 held twice", holding(nothing, twice, 2), (igb_report){IGB_OK, 0, 2, 0, 1, 0}, (filled){&forced_off, second, &chunk, one, calls});
     runs_list("both signs", holding(plain(NULL, 0, 1, 0, 2), both, 2), (igb_report){IGB_NO_MODEL, 0, 1, 0, 0, 0},
-              (filled){open, none, call});
+              (filled){open, none, open, none, call});
     const given card = plain(three, 4, 3, 100, 2);
-    static const uint8_t rest[] = {3, 1, 1}, settled[] = {3, 3, 2};
+    static const uint8_t rest[] = {3, 1, 1}, settled[] = {3, 3, 2}, rest_ways[] = {3, 2, 1}, chunks[] = {3, 3, 3};
+    static const uint32_t rest_calls[] = {2, 1, 3}, later[] = {2, 3, 3};
     static const uint32_t rest_hints[] = {2, 0, 1}, hints[] = {2, 3, 1};
     static const uint32_t rest_rows[] = {1, 1, 0, 0, 1, 1, 2, 2, 1, 0, 0, 0, 3, 1, 1, 1, 0, 0};
     static const uint32_t rows[] = {1, 1, 0, 0, 0, 0, 2, 2, 1, 0, 0, 0, 3, 2, 2, 0, 0, 0};
-    runs_list("`1 2 3 0` with -1", holding(card, off, 1), (igb_report){IGB_OK, 0, 3, 1, 1, 2}, (filled){rest, rest_hints, rest_rows});
-    runs_list("`1 2 3 0` with -1 and -2", holding(card, two_off, 2), (igb_report){IGB_OK, 0, 3, 0, 3, 0}, (filled){settled, hints, rows});
+    runs_list("`1 2 3 0` with -1", holding(card, off, 1), (igb_report){IGB_OK, 0, 3, 1, 1, 2},
+              (filled){rest, rest_calls, rest_ways, rest_hints, rest_rows});
+    runs_list("`1 2 3 0` with -1 and -2", holding(card, two_off, 2), (igb_report){IGB_OK, 0, 3, 0, 3, 0},
+              (filled){settled, later, chunks, hints, rows});
     runs_list("what the formula excludes", holding(plain(forced, 6, 2, 100, 2), off, 1), (igb_report){IGB_NO_MODEL, 0, 1, 0, 0, 0},
-              (filled){open, none, call});
+              (filled){open, none, open, none, call});
 
     static int32_t ones[IGB_HELD_MAX + 1], zeros[IGB_HELD_MAX + 1], many[IGB_ENTRIES_MAX];
     for (size_t i = 0; i < LEN(ones); i++)
         ones[i] = 1;
-    runs_list("256 held", holding(nothing, ones, 256), (igb_report){IGB_OK, 0, 2, 0, 1, 0}, (filled){&forced_on, one, calls});
+    runs_list("256 held", holding(nothing, ones, 256), (igb_report){IGB_OK, 0, 2, 0, 1, 0}, (filled){&forced_on, second, &chunk, one, calls});
     refuses_run("257 held", holding(nothing, ones, 257), 1, 12, IGB_MANY_HELD, 256);
     refuses_run("0 held", holding(nothing, zero, 2), 1, 12, IGB_BAD_LITERAL, 1);
     refuses_run("V + 1 held", holding(nothing, over, 4), 1, 12, IGB_BAD_LITERAL, 2);
@@ -328,11 +350,11 @@ static void holdings(void)
     refuses_run("12 comes before 13", holding(plain(above, 2, 1, 100, 2), zero, 2), 1, 12, IGB_ENTRY_OVER_VARS, 0);
     refuses_run("15 comes before 13", holding(nothing, zeros, 257), 1, 12, IGB_MANY_HELD, 256);
     runs_list("1,024 clauses and 256 held", holding(plain(many, 1024, 1, 100, 2), ones, 256),
-              (igb_report){IGB_NO_MODEL, 0, 1, 0, 0, 0}, (filled){open, none, call});
+              (igb_report){IGB_NO_MODEL, 0, 1, 0, 0, 0}, (filled){open, none, open, none, call});
     for (size_t i = 0; i + 1 < IGB_ENTRIES_MAX; i++)
         many[i] = 1;
     runs_list("4,096 entries and 256 held", holding(plain(many, 4096, 1, 100, 2), ones, 256), (igb_report){IGB_OK, 0, 2, 0, 1, 0},
-              (filled){&forced_on, one, calls});
+              (filled){&forced_on, second, &chunk, one, calls});
 }
 
 /* ---- one valid setup */
@@ -451,16 +473,23 @@ static void nulls(void)
     const char *what = "NULL";
     int32_t entries[IGB_ENTRIES_LEN] = {1};
     uint8_t out[IGB_TABLE_LEN];
-    uint32_t log[12], hint;
+    uint32_t log[12], call, hint;
+    uint8_t way;
+    int32_t first, other;
     igb_reading none = igb_read(NULL, 0, NULL, 0), empty = igb_read(NULL, 0, entries, IGB_ENTRIES_LEN);
     CHECK(none.answer == IGB_SHORT_BUFFER && none.place == 0 && none.vars == 0 && none.clauses == 0 && none.count == 0, what);
     CHECK(empty.answer == IGB_BAD_HEADER && empty.place == 0 && empty.count == 0 && entries[0] == 0, what);
-    CHECK(is_report(igb_run(NULL, 0, 0, NULL, 0, 100, 2, NULL, 0, NULL, 0, NULL, 0), (igb_report){IGB_SHORT_BUFFER, 0, 0, 0, 0, 0}), what);
-    CHECK(is_report(igb_run(NULL, 0, 0, NULL, 0, 100, 0, NULL, 0, NULL, 0, NULL, 0), (igb_report){IGB_BAD_LIMITS, 0, 0, 0, 0, 0}), what);
-    CHECK(is_report(igb_run(NULL, 0, 0, NULL, 0, 100, 2, NULL, 0, NULL, 0, log, 6), (igb_report){IGB_OK, 0, 1, 0, 0, 0}), what);
-    CHECK(is_report(igb_run(NULL, 0, 1, NULL, 0, 100, 2, out, 1, &hint, 1, log, 12), (igb_report){IGB_OK, 0, 1, 1, 0, 1}), what);
+    CHECK(is_report(igb_run(NULL, 0, 0, NULL, 0, 100, 2, NULL, 0, NULL, 0, NULL, 0, NULL, 0, NULL, 0), (igb_report){IGB_SHORT_BUFFER, 0, 0, 0, 0, 0}), what);
+    CHECK(is_report(igb_run(NULL, 0, 0, NULL, 0, 100, 0, NULL, 0, NULL, 0, NULL, 0, NULL, 0, NULL, 0), (igb_report){IGB_BAD_LIMITS, 0, 0, 0, 0, 0}), what);
+    CHECK(is_report(igb_run(NULL, 0, 0, NULL, 0, 100, 2, NULL, 0, NULL, 0, NULL, 0, NULL, 0, log, 6), (igb_report){IGB_OK, 0, 1, 0, 0, 0}), what);
+    CHECK(is_report(igb_run(NULL, 0, 1, NULL, 0, 100, 2, out, 1, &call, 1, &way, 1, &hint, 1, log, 12), (igb_report){IGB_OK, 0, 1, 1, 0, 1}), what);
     CHECK(is_report(igb_setup(NULL, 0, 0, NULL, 0, 100, NULL, 0), (igb_report){IGB_OK, 0, 1, 0, 0, 0}), what);
     CHECK(is_report(igb_setup(NULL, 0, 1, NULL, 0, 100, NULL, 0), (igb_report){IGB_SHORT_BUFFER, 0, 0, 0, 0, 0}), what);
+    CHECK(is_report(igb_witness(NULL, 0, 0, NULL, 0, 100, 2, 0, NULL, 0, NULL, 0), (igb_report){IGB_NOT_FREE, 0, 0, 0, 0, 0}), what);
+    CHECK(is_report(igb_witness(NULL, 0, 1, NULL, 0, 100, 2, 1, NULL, 0, &other, 1), (igb_report){IGB_SHORT_BUFFER, 0, 0, 0, 0, 0}), what);
+    CHECK(is_report(igb_witness(NULL, 0, 1, NULL, 0, 100, 2, 1, &first, 1, &other, 1), (igb_report){IGB_OK, 0, 1, 1, 0, 1}), what);
+    CHECK(igb_witness_text(NULL, 0, 1, NULL, 0) == 0, what);
+    CHECK(igb_witness_text(NULL, 0, 1, out, IGB_TABLE_LEN) == 18 && memcmp(out, "refused 3 place 0\n", 18) == 0, what);
     CHECK(igb_table(NULL, 0, NULL, 0, NULL, 0) == 0, what);
     CHECK(igb_table(NULL, 0, NULL, 0, out, IGB_TABLE_LEN) == 18 && memcmp(out, "refused 3 place 0\n", 18) == 0, what);
 }

@@ -11,8 +11,9 @@
 enum { LARGE = 8 << 20, BELOW = 4 << 20, PAINT = 0xA5 };
 
 static int32_t entries[IGB_ENTRIES_LEN];
-static uint8_t status[IGB_STATUS_LEN], table[IGB_TABLE_LEN];
-static uint32_t hints[IGB_HINTS_LEN], log_rows[IGB_LOG_LEN];
+static uint8_t status[IGB_STATUS_LEN], ways[IGB_WAYS_LEN], table[IGB_TABLE_LEN];
+static int32_t first[IGB_WITNESS_LEN], other[IGB_WITNESS_LEN];
+static uint32_t call_of[IGB_CALLS_LEN], hints[IGB_HINTS_LEN], log_rows[IGB_LOG_LEN];
 static uint8_t marks[IGB_MARKS_LEN], values[IGB_VALUES_LEN];
 
 static void *nothing(void *unused)
@@ -31,7 +32,8 @@ static void *read_largest(void *unused)
 
 static void *run_deepest(void *unused)
 {
-    igb_report got = igb_run(entries, 0, 256, NULL, 0, UINT32_MAX, 256, status, IGB_STATUS_LEN, hints, IGB_HINTS_LEN, log_rows, IGB_LOG_LEN);
+    igb_report got = igb_run(entries, 0, 256, NULL, 0, UINT32_MAX, 256, status, IGB_STATUS_LEN, call_of, IGB_CALLS_LEN, ways, IGB_WAYS_LEN,
+                             hints, IGB_HINTS_LEN, log_rows, IGB_LOG_LEN);
     CHECK(got.answer == IGB_OK && got.tries == 256 && got.free == 256, "the deepest run");
     return unused;
 }
@@ -40,6 +42,23 @@ static void *why_deepest(void *unused)
 {
     igb_why_report got = igb_why(entries, 0, 256, 256, UINT32_MAX, marks, IGB_MARKS_LEN, values, IGB_VALUES_LEN);
     CHECK(got.answer == IGB_NOT_FORCED && got.calls == 2 && got.tries == 511, "the deepest why");
+    return unused;
+}
+
+/* One clause that settles its last variable in a second call, which is done once more. */
+static void *witness_deepest(void *unused)
+{
+    for (int32_t v = 1; v <= 256; v++)
+        entries[v - 1] = v;
+    entries[256] = 0;
+    igb_report got = igb_witness(entries, 257, 256, NULL, 0, UINT32_MAX, 256, 256, first, IGB_WITNESS_LEN, other, IGB_WITNESS_LEN);
+    CHECK(got.answer == IGB_OK && got.calls == 2 && first[255] == 256 && other[255] == -256, "the deepest witness");
+    return unused;
+}
+
+static void *lines_deepest(void *unused)
+{
+    CHECK(igb_witness_text((const uint8_t *)"p cnf 256 0", 11, 256, table, IGB_WITNESS_TEXT_LEN) > 2000, "the deepest lines");
     return unused;
 }
 
@@ -86,7 +105,8 @@ int main(void)
         const char *name;
         void *(*call)(void *);
     } calls[] = {{"a thread alone", nothing}, {"igb_read", read_largest}, {"igb_run", run_deepest}, {"igb_setup", setup_deepest},
-                 {"igb_why", why_deepest}, {"igb_table", table_deepest}};
+                 {"igb_why", why_deepest}, {"igb_witness", witness_deepest}, {"igb_witness_text", lines_deepest},
+                 {"igb_table", table_deepest}};
     for (size_t i = 0; i < sizeof calls / sizeof *calls; i++) {
         size_t bytes = used(calls[i].call, LARGE);
         CHECK(bytes < IGB_STACK_BYTES, calls[i].name);

@@ -1,5 +1,6 @@
 /*
- * Two threads at once, each on buffers of its own, get what one thread alone gets: readings, runs, setups and tables of different cards. Words:
+ * Two threads at once, each on buffers of its own, get what one thread alone gets: readings, runs, setups, witnesses and tables of different
+ * cards. Words:
  * how many rounds (200 if none is given).
  */
 #include "check.h"
@@ -17,10 +18,10 @@ enum { CARDS = sizeof cards / sizeof *cards };
 /* All that the library says of a card. */
 typedef struct {
     igb_reading reading;
-    igb_report report, set;
-    int32_t entries[IGB_ENTRIES_LEN];
-    uint8_t status[IGB_STATUS_LEN], table[IGB_TABLE_LEN], values[IGB_VALUES_LEN];
-    uint32_t hints[IGB_HINTS_LEN], log[IGB_LOG_LEN];
+    igb_report report, set, shown;
+    int32_t entries[IGB_ENTRIES_LEN], first[IGB_WITNESS_LEN], witness[IGB_WITNESS_LEN];
+    uint8_t status[IGB_STATUS_LEN], ways[IGB_WAYS_LEN], table[IGB_TABLE_LEN], values[IGB_VALUES_LEN];
+    uint32_t calls[IGB_CALLS_LEN], hints[IGB_HINTS_LEN], log[IGB_LOG_LEN];
     size_t table_len;
 } said;
 
@@ -34,8 +35,10 @@ static void ask(const char *card, said *s)
     static const int32_t held[] = {1};
     s->reading = igb_read(text, strlen(card), s->entries, IGB_ENTRIES_LEN);
     s->report = igb_run(s->entries, s->reading.count, s->reading.vars, NULL, 0, IGB_TABLE_BUDGET, IGB_TABLE_CHUNK, s->status, IGB_STATUS_LEN,
-                        s->hints, IGB_HINTS_LEN, s->log, IGB_LOG_LEN);
+                        s->calls, IGB_CALLS_LEN, s->ways, IGB_WAYS_LEN, s->hints, IGB_HINTS_LEN, s->log, IGB_LOG_LEN);
     s->set = igb_setup(s->entries, s->reading.count, s->reading.vars, held, 1, IGB_TABLE_BUDGET, s->values, IGB_VALUES_LEN);
+    s->shown = igb_witness(s->entries, s->reading.count, s->reading.vars, NULL, 0, IGB_TABLE_BUDGET, IGB_TABLE_CHUNK, 2, s->first,
+                           IGB_WITNESS_LEN, s->witness, IGB_WITNESS_LEN);
     s->table_len = igb_table(text, strlen(card), NULL, 0, s->table, IGB_TABLE_LEN);
 }
 

@@ -1,19 +1,25 @@
 //! A case: one call of the library and the seed of the paint of its buffers. As a file it is lines of a word and what it is:
 //!
-//!   call run           or read, setup, why, or table
+//!   call run           or read, setup, why, witness, lines, or table
 //!   paint 1
 //!   vars 3             run and setup: variables, budget, and the list
 //!   budget 100
 //!   entries 1 2 3 0
 //!   chunk_limit 2      run: chunk limit, and lengths of the buffers
 //!   status_len 3
+//!   calls_len 3
+//!   ways_len 3
 //!   hints_len 3
 //!   log_len 24
 //!   values_len 3       setup and why: length of the buffer
-//!   held -1 2          run, setup and table: the literals held; none if there is no such line
+//!   held -1 2          run, setup, witness and table: the literals held; none if there is no such line
 //!   literal -3         why: this, lengths of the buffers, and vars, budget and entries as above
 //!   marks_len 1024
-//!   room 9216          read and table: length of the buffer, and the text, with \n \t \r \\ and \xHH for what is not printed
+//!   variable 3         witness: this, lengths of the buffers, and vars, held, budget, chunk_limit and entries as above
+//!   first_len 3
+//!   witness_len 3
+//!   room 9216          read, table and lines (with a variable too): length of the buffer, and the text, with \n \t \r \\ and \xHH for what is not
+//!                      printed
 //!   text p cnf 1 1\n1 0\n
 
 use std::collections::BTreeMap;
@@ -23,22 +29,37 @@ use std::str::FromStr;
 /// The least room that a table is put into.
 pub const MAX_TABLE: usize = 9_216;
 
+/// The least room that both lines of a witness are put into.
+pub const MAX_LINES: usize = 4_096;
+
+/// The lengths of the buffers that a run is lent.
+#[derive(Clone, Copy)]
+pub struct Lengths {
+    pub status: usize,
+    pub calls: usize,
+    pub ways: usize,
+    pub hints: usize,
+    pub log: usize,
+}
+
 #[derive(Clone)]
 pub enum Call {
     Read { text: Vec<u8>, room: usize },
-    Run {
+    Run { entries: Vec<i32>, vars: u32, held: Vec<i32>, budget: u32, chunk_limit: u32, lengths: Lengths },
+    Setup { entries: Vec<i32>, vars: u32, held: Vec<i32>, budget: u32, values_len: usize },
+    Witness {
         entries: Vec<i32>,
         vars: u32,
         held: Vec<i32>,
         budget: u32,
         chunk_limit: u32,
-        status_len: usize,
-        hints_len: usize,
-        log_len: usize,
+        variable: u32,
+        first_len: usize,
+        witness_len: usize,
     },
-    Setup { entries: Vec<i32>, vars: u32, held: Vec<i32>, budget: u32, values_len: usize },
     Why { entries: Vec<i32>, vars: u32, literal: i32, budget: u32, marks_len: usize, values_len: usize },
     Table { text: Vec<u8>, held: Vec<i32>, room: usize },
+    Lines { text: Vec<u8>, variable: u32, room: usize },
 }
 
 #[derive(Clone)]
@@ -54,7 +75,9 @@ impl Call {
             Call::Run { .. } => "run",
             Call::Setup { .. } => "setup",
             Call::Why { .. } => "why",
+            Call::Witness { .. } => "witness",
             Call::Table { .. } => "table",
+            Call::Lines { .. } => "lines",
         }
     }
 }
@@ -106,14 +129,19 @@ impl fmt::Display for Case {
         match &self.call {
             Call::Read { text, room } => writeln!(f, "room {room}\ntext {}", escaped(text)),
             Call::Table { text, held, room } => writeln!(f, "room {room}\nheld {}\ntext {}", words(held), escaped(text)),
-            Call::Run { entries, vars, held, budget, chunk_limit, status_len, hints_len, log_len } => {
+            Call::Lines { text, variable, room } => writeln!(f, "variable {variable}\nroom {room}\ntext {}", escaped(text)),
+            Call::Run { entries, vars, held, budget, chunk_limit, lengths: Lengths { status, calls, ways, hints, log } } => {
                 writeln!(f, "vars {vars}\nbudget {budget}\nchunk_limit {chunk_limit}")?;
-                writeln!(f, "status_len {status_len}\nhints_len {hints_len}\nlog_len {log_len}")?;
+                writeln!(f, "status_len {status}\ncalls_len {calls}\nways_len {ways}\nhints_len {hints}\nlog_len {log}")?;
                 writeln!(f, "held {}\nentries {}", words(held), words(entries))
             }
             Call::Setup { entries, vars, held, budget, values_len } => {
                 writeln!(f, "vars {vars}\nbudget {budget}\nvalues_len {values_len}")?;
                 writeln!(f, "held {}\nentries {}", words(held), words(entries))
+            }
+            Call::Witness { entries, vars, held, budget, chunk_limit, variable, first_len, witness_len } => {
+                writeln!(f, "vars {vars}\nbudget {budget}\nchunk_limit {chunk_limit}\nvariable {variable}")?;
+                writeln!(f, "first_len {first_len}\nwitness_len {witness_len}\nheld {}\nentries {}", words(held), words(entries))
             }
             Call::Why { entries, vars, literal, budget, marks_len, values_len } => {
                 writeln!(f, "vars {vars}\nliteral {literal}\nbudget {budget}\nmarks_len {marks_len}\nvalues_len {values_len}")?;
@@ -138,6 +166,7 @@ impl FromStr for Case {
         let call = match word("call")? {
             "read" => Call::Read { text: text()?, room: number(word("room")?)? },
             "table" => Call::Table { text: text()?, held: held()?, room: number(word("room")?)? },
+            "lines" => Call::Lines { text: text()?, variable: number(word("variable")?)?, room: number(word("room")?)? },
             "setup" => Call::Setup {
                 entries: list(word("entries")?)?,
                 vars: number(word("vars")?)?,
@@ -151,9 +180,23 @@ impl FromStr for Case {
                 held: held()?,
                 budget: number(word("budget")?)?,
                 chunk_limit: number(word("chunk_limit")?)?,
-                status_len: number(word("status_len")?)?,
-                hints_len: number(word("hints_len")?)?,
-                log_len: number(word("log_len")?)?,
+                lengths: Lengths {
+                    status: number(word("status_len")?)?,
+                    calls: number(word("calls_len")?)?,
+                    ways: number(word("ways_len")?)?,
+                    hints: number(word("hints_len")?)?,
+                    log: number(word("log_len")?)?,
+                },
+            },
+            "witness" => Call::Witness {
+                entries: list(word("entries")?)?,
+                vars: number(word("vars")?)?,
+                held: held()?,
+                budget: number(word("budget")?)?,
+                chunk_limit: number(word("chunk_limit")?)?,
+                variable: number(word("variable")?)?,
+                first_len: number(word("first_len")?)?,
+                witness_len: number(word("witness_len")?)?,
             },
             "why" => Call::Why {
                 entries: list(word("entries")?)?,

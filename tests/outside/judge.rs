@@ -2,11 +2,12 @@
 //! are painted before the call; everything is compared, guards too. A fault can be put into what the library gave, to show that it is
 //! noticed.
 
-use crate::case::{Call, Case, MAX_TABLE};
+use crate::case::{Call, Case, MAX_LINES, MAX_TABLE};
 use crate::raw;
 use crate::rules::{self, Given};
 use crate::texts::Random;
 use crate::why::{self, WhyGiven};
+use crate::witness::{self, WitnessGiven};
 
 const GUARD: usize = 8;
 /// Up to so many variables all models are tried too.
@@ -32,11 +33,18 @@ pub fn faults() -> Vec<String> {
         all.extend(["answer", "place", "calls", "tries", "forced", "free"].map(|n| format!("{call}.{n}")));
     }
     all.extend(["answer", "place", "calls", "tries"].map(|n| format!("why.{n}")));
-    all.push("table.length".to_string());
-    for name in ["read.entries", "run.status", "run.hints", "run.log", "setup.values", "why.marks", "why.values", "table.out"] {
+    all.extend(["answer", "place", "calls", "tries", "forced", "free"].map(|n| format!("witness.{n}")));
+    all.extend(["table.length".to_string(), "lines.length".to_string()]);
+    for name in [
+        "read.entries", "run.status", "run.calls", "run.ways", "run.hints", "run.log", "setup.values", "why.marks", "why.values",
+        "witness.first", "witness.witness", "table.out", "lines.out",
+    ] {
         all.extend(["before", "first", "last", "behind"].map(|place| format!("{name}.{place}")));
     }
-    let lists = ["read.text", "run.list", "run.held", "setup.list", "setup.held", "why.list", "table.text", "table.held"];
+    let lists = [
+        "read.text", "run.list", "run.held", "setup.list", "setup.held", "why.list", "witness.list", "witness.held", "table.text", "table.held",
+        "lines.text",
+    ];
     for name in lists.into_iter().chain(["run.models", "setup.models"]) {
         all.extend(["first", "last"].map(|place| format!("{name}.{place}")));
     }
@@ -148,13 +156,27 @@ fn read(r: &mut Random, text: &[u8], room: usize) -> (Seen, Seen) {
 fn run(r: &mut Random, g: &Given) -> (Seen, Seen) {
     let (mut got, mut want) = (Seen::default(), Seen::default());
     let status_before = painted(r, g.status_len, |x| x as u8);
+    let calls_before = painted(r, g.calls_len, |x| x as u32);
+    let ways_before = painted(r, g.ways_len, |x| x as u8);
     let hints_before = painted(r, g.hints_len, |x| x as u32);
     let log_before = painted(r, g.log_len, |x| x as u32);
     let (mut status, mut hints, mut log) = (status_before.clone(), hints_before.clone(), log_before.clone());
+    let (mut calls, mut ways) = (calls_before.clone(), ways_before.clone());
     let (lent, held) = (Box::<[i32]>::from(g.entries), Box::<[i32]>::from(g.held));
-    let (s, l) = (&mut status[GUARD..GUARD + g.status_len], &mut log[GUARD..GUARD + g.log_len]);
-    let x = raw::run(&lent, g.vars, &held, g.budget, g.chunk_limit, s, &mut hints[GUARD..GUARD + g.hints_len], l);
+    let x = raw::run(
+        &lent,
+        g.vars,
+        &held,
+        g.budget,
+        g.chunk_limit,
+        &mut status[GUARD..GUARD + g.status_len],
+        &mut calls[GUARD..GUARD + g.calls_len],
+        &mut ways[GUARD..GUARD + g.ways_len],
+        &mut hints[GUARD..GUARD + g.hints_len],
+        &mut log[GUARD..GUARD + g.log_len],
+    );
     let (mut new_status, mut new_hints, mut new_log) = (Vec::new(), Vec::new(), Vec::new());
+    let (mut new_calls, mut new_ways) = (Vec::new(), Vec::new());
     let numbers = match rules::run(g) {
         Err((answer, place)) => [answer as usize, place, 0, 0, 0, 0],
         Ok(report) => {
@@ -162,6 +184,8 @@ fn run(r: &mut Random, g: &Given) -> (Seen, Seen) {
             new_log.resize(6 * (g.vars as usize + 1), 0);
             let numbers = [report.answer as usize, 0, report.log.len(), report.tries as usize, report.forced(), report.free()];
             new_status = report.status;
+            new_calls = report.calls;
+            new_ways = report.ways;
             new_hints = report.hints;
             numbers
         }
@@ -173,6 +197,10 @@ fn run(r: &mut Random, g: &Given) -> (Seen, Seen) {
     }
     got.buffer("run.status", &status, new_status.len());
     want.buffer("run.status", &written(&status_before, &new_status), new_status.len());
+    got.buffer("run.calls", &calls, new_calls.len());
+    want.buffer("run.calls", &written(&calls_before, &new_calls), new_calls.len());
+    got.buffer("run.ways", &ways, new_ways.len());
+    want.buffer("run.ways", &written(&ways_before, &new_ways), new_ways.len());
     got.buffer("run.hints", &hints, new_hints.len());
     want.buffer("run.hints", &written(&hints_before, &new_hints), new_hints.len());
     got.buffer("run.log", &log, new_log.len());
@@ -261,6 +289,32 @@ fn why(r: &mut Random, g: &WhyGiven) -> (Seen, Seen) {
     (got, want)
 }
 
+fn witness(r: &mut Random, g: &WitnessGiven) -> (Seen, Seen) {
+    let (mut got, mut want) = (Seen::default(), Seen::default());
+    let first_before = painted(r, g.first_len, |x| x as i32);
+    let witness_before = painted(r, g.witness_len, |x| x as i32);
+    let (mut first, mut second) = (first_before.clone(), witness_before.clone());
+    let (lent, held) = (Box::<[i32]>::from(g.entries), Box::<[i32]>::from(g.held));
+    let (f, w) = (&mut first[GUARD..GUARD + g.first_len], &mut second[GUARD..GUARD + g.witness_len]);
+    let x = raw::witness(&lent, g.vars, &held, g.budget, g.chunk_limit, g.variable, f, w);
+    let (numbers, new_first, new_witness) = match witness::witness(g) {
+        Err((answer, place)) => ([answer as usize, place, 0, 0, 0, 0], Vec::new(), Vec::new()),
+        Ok((run, f, w)) => ([run.answer as usize, 0, run.log.len(), run.tries as usize, run.forced(), run.free()], f, w),
+    };
+    let names = ["witness.answer", "witness.place", "witness.calls", "witness.tries", "witness.forced", "witness.free"];
+    for ((name, x), n) in names.into_iter().zip([x.answer, x.place, x.calls, x.tries, x.forced, x.free]).zip(numbers) {
+        got.number(name, x);
+        want.number(name, n as i64);
+    }
+    got.buffer("witness.first", &first, new_first.len());
+    want.buffer("witness.first", &written(&first_before, &new_first), new_first.len());
+    got.buffer("witness.witness", &second, new_witness.len());
+    want.buffer("witness.witness", &written(&witness_before, &new_witness), new_witness.len());
+    kept("witness.list", g.entries, &lent, &mut got, &mut want);
+    kept("witness.held", g.held, &held, &mut got, &mut want);
+    (got, want)
+}
+
 fn table(r: &mut Random, text: &[u8], held: &[i32], room: usize) -> (Seen, Seen) {
     let (mut got, mut want) = (Seen::default(), Seen::default());
     let before = painted(r, room, |x| x as u8);
@@ -277,20 +331,40 @@ fn table(r: &mut Random, text: &[u8], held: &[i32], room: usize) -> (Seen, Seen)
     (got, want)
 }
 
+fn lines(r: &mut Random, text: &[u8], variable: u32, room: usize) -> (Seen, Seen) {
+    let (mut got, mut want) = (Seen::default(), Seen::default());
+    let before = painted(r, room, |x| x as u8);
+    let mut out = before.clone();
+    let lent = Box::<[u8]>::from(text);
+    let length = raw::witness_text(&lent, variable, &mut out[GUARD..GUARD + room]);
+    let expected = if room < MAX_LINES { String::new() } else { witness::lines(text, variable) };
+    got.number("lines.length", length as i64);
+    want.number("lines.length", expected.len() as i64);
+    got.buffer("lines.out", &out, expected.len());
+    want.buffer("lines.out", &written(&before, expected.as_bytes()), expected.len());
+    kept("lines.text", text, &lent, &mut got, &mut want);
+    (got, want)
+}
+
 /// The first number that the rules say, and the difference of a case, if there is one; with a fault in what the library gave if one
 /// is named.
 pub fn judge(case: &Case, fault: Option<&str>) -> (i64, Option<String>) {
     let mut r = Random::of_seed(case.paint);
     let (mut got, want) = match &case.call {
         Call::Read { text, room } => read(&mut r, text, *room),
-        &Call::Run { ref entries, vars, ref held, budget, chunk_limit, status_len, hints_len, log_len } => {
-            run(&mut r, &Given { entries, vars, held, budget, chunk_limit, status_len, hints_len, log_len })
+        &Call::Run { ref entries, vars, ref held, budget, chunk_limit, lengths: l } => {
+            let (status_len, calls_len, ways_len, hints_len, log_len) = (l.status, l.calls, l.ways, l.hints, l.log);
+            run(&mut r, &Given { entries, vars, held, budget, chunk_limit, status_len, calls_len, ways_len, hints_len, log_len })
+        }
+        &Call::Witness { ref entries, vars, ref held, budget, chunk_limit, variable, first_len, witness_len } => {
+            witness(&mut r, &WitnessGiven { entries, vars, held, budget, chunk_limit, variable, first_len, witness_len })
         }
         &Call::Why { ref entries, vars, literal, budget, marks_len, values_len } => {
             why(&mut r, &WhyGiven { entries, vars, literal, budget, marks_len, values_len })
         }
         &Call::Setup { ref entries, vars, ref held, budget, values_len } => setup(&mut r, entries, vars, held, budget, values_len),
         Call::Table { text, held, room } => table(&mut r, text, held, *room),
+        Call::Lines { text, variable, room } => lines(&mut r, text, *variable, *room),
     };
     if let Some(fault) = fault {
         got.put_fault(fault);

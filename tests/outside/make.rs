@@ -1,9 +1,10 @@
 //! Cases: those at the edges of the rules, always the same, and cases at random.
 
-use crate::case::{Call, MAX_TABLE};
+use crate::case::{Call, Lengths, MAX_LINES, MAX_TABLE};
 use crate::rules::{self, Given, MAX_CLAUSES, MAX_ENTRIES, MAX_HELD, MAX_TEXT, MAX_VARS};
 use crate::texts::{random_held, random_text, some_literals, text_of, with_comments, with_percent, Random};
 use crate::why::{self, WhyGiven};
+use crate::witness::{self, WitnessGiven};
 
 const LIMITS: [u32; 5] = [1, 2, 3, 16, 256];
 
@@ -13,17 +14,25 @@ fn log_of(vars: u32) -> usize {
 
 /// A run with exact buffers.
 fn exact(entries: Vec<i32>, vars: u32, held: Vec<i32>, budget: u32, chunk_limit: u32) -> Call {
-    let (status_len, hints_len, log_len) = (vars as usize, vars as usize, log_of(vars));
-    Call::Run { entries, vars, held, budget, chunk_limit, status_len, hints_len, log_len }
+    let n = vars as usize;
+    let lengths = Lengths { status: n, calls: n, ways: n, hints: n, log: log_of(vars) };
+    Call::Run { entries, vars, held, budget, chunk_limit, lengths }
+}
+
+/// A witness with exact buffers.
+fn exact_witness(entries: Vec<i32>, vars: u32, held: Vec<i32>, budget: u32, chunk_limit: u32, variable: u32) -> Call {
+    let (first_len, witness_len) = (vars as usize, vars as usize);
+    Call::Witness { entries, vars, held, budget, chunk_limit, variable, first_len, witness_len }
 }
 
 // ---- the edges
 
-/// One text in buffers of every interesting length, read and as a table.
+/// One text in buffers of every interesting length, read, as a table and as the lines of a witness.
 fn in_all_rooms(text: &[u8], calls: &mut Vec<Call>) {
     for (entries, table) in [(0, 0), (1, 1), (4_095, 9_215), (4_096, 9_216), (4_097, 9_217), (5_000, 10_000)] {
         calls.push(Call::Read { text: text.to_vec(), room: entries });
         calls.push(Call::Table { text: text.to_vec(), held: Vec::new(), room: table });
+        calls.push(Call::Lines { text: text.to_vec(), variable: 1, room: entries });
     }
 }
 
@@ -109,15 +118,18 @@ fn edge_held() -> Vec<(Vec<i32>, u32, Vec<i32>)> {
     cases
 }
 
-/// A run, a setup and a table with these literals held.
+/// A run, a setup, a witness and a table with these literals held.
 fn in_all_calls(entries: &[i32], vars: u32, held: &[i32], calls: &mut Vec<Call>) {
     let (vs, log) = (vars.min(300) as usize, log_of(vars.min(300)));
     for (len, log_len) in [(vs, log), (vs + 3, log + 7), (vs.max(1) - 1, log), (0, 0)] {
         for (budget, chunk_limit) in [(100, 2), (0, 1), (u32::MAX, 256), (100, 0)] {
             let (entries, held) = (entries.to_vec(), held.to_vec());
             let setup = Call::Setup { entries: entries.clone(), vars, held: held.clone(), budget, values_len: len };
-            calls.push(Call::Run { entries, vars, held, budget, chunk_limit, status_len: len, hints_len: len, log_len });
+            let (first_len, witness_len) = (len, len);
+            let lengths = Lengths { status: len, calls: len, ways: len, hints: len, log: log_len };
+            calls.push(Call::Run { entries: entries.clone(), vars, held: held.clone(), budget, chunk_limit, lengths });
             calls.push(setup);
+            calls.push(Call::Witness { entries, vars, held, budget, chunk_limit, variable: 2, first_len, witness_len });
         }
     }
     let clauses: Vec<Vec<i32>> = rules::clauses_of(entries).into_iter().map(|c| c.into_iter().collect()).collect();
@@ -144,6 +156,19 @@ fn edge_whys(list: &[i32], vars: u32, calls: &mut Vec<Call>) {
     }
 }
 
+/// A witness, for a list in buffers of every interesting length, with variables and limits at the edges.
+fn edge_witnesses(list: &[i32], vars: u32, calls: &mut Vec<Call>) {
+    let vs = vars.min(300) as usize;
+    for (first_len, witness_len) in [(vs, vs), (vs + 3, vs + 5), (vs.max(1) - 1, vs), (vs, vs.max(1) - 1), (0, 0)] {
+        for variable in [0, 1, 2, vars.min(300), vars.min(300) + 1, u32::MAX] {
+            for (budget, chunk_limit) in [(100, 2), (0, 1), (2, 2), (100, 0), (100, 257)] {
+                let (entries, held) = (list.to_vec(), Vec::new());
+                calls.push(Call::Witness { entries, vars, held, budget, chunk_limit, variable, first_len, witness_len });
+            }
+        }
+    }
+}
+
 pub fn edges() -> Vec<Call> {
     let mut calls = Vec::new();
     for text in edge_texts() {
@@ -154,14 +179,24 @@ pub fn edges() -> Vec<Call> {
     }
     for (list, vars) in edge_lists() {
         edge_whys(&list, vars, &mut calls);
+        edge_witnesses(&list, vars, &mut calls);
         // the longest buffers that a run could ask for, and a little more, where the variables are too many
         let (vs, log) = (vars.min(300) as usize, log_of(vars.min(300)));
         let less = vs.max(1) - 1;
-        let lengths = [(vs, vs, log), (vs + 3, vs + 5, log + 7), (less, vs, log), (vs, less, log), (vs, vs, log - 1), (0, 0, 0)];
-        for (status_len, hints_len, log_len) in lengths {
+        let right = Lengths { status: vs, calls: vs, ways: vs, hints: vs, log };
+        let all = [
+            right,
+            Lengths { status: vs + 3, calls: vs + 2, ways: vs + 4, hints: vs + 5, log: log + 7 },
+            Lengths { status: less, ..right },
+            Lengths { calls: less, ..right },
+            Lengths { ways: less, ..right },
+            Lengths { hints: less, ..right },
+            Lengths { log: log - 1, ..right },
+            Lengths { status: 0, calls: 0, ways: 0, hints: 0, log: 0 },
+        ];
+        for lengths in all {
             for (budget, chunk_limit) in [(100, 2), (0, 1), (u32::MAX, 256), (100, 0), (100, 257), (100, u32::MAX)] {
-                let (entries, held) = (list.clone(), Vec::new());
-                calls.push(Call::Run { entries, vars, held, budget, chunk_limit, status_len, hints_len, log_len });
+                calls.push(Call::Run { entries: list.clone(), vars, held: Vec::new(), budget, chunk_limit, lengths });
             }
         }
     }
@@ -223,19 +258,53 @@ fn every_budget(r: &mut Random, calls: &mut Vec<Call>) {
         calls.push(Call::Setup { entries: entries.clone(), vars, held: held.clone(), budget, values_len });
     }
     for chunk_limit in LIMITS {
-        let (status_len, hints_len, log_len) = (vars as usize, vars as usize, log_of(vars));
-        let given = Given { entries: &entries, vars, held: &held, budget: u32::MAX, chunk_limit, status_len, hints_len, log_len };
+        let n = vars as usize;
+        let (status_len, calls_len, ways_len, hints_len, log_len) = (n, n, n, n, log_of(vars));
+        let given = Given { entries: &entries, vars, held: &held, budget: u32::MAX, chunk_limit, status_len, calls_len, ways_len, hints_len, log_len };
         let needed = rules::run(&given).expect("the list keeps the rules").tries as u32;
         for budget in (0..=needed + 1).chain([u32::MAX]) {
             let mut call = exact(entries.clone(), vars, held.clone(), budget, chunk_limit);
-            if let Call::Run { status_len, hints_len, log_len, .. } = &mut call {
-                stretch(r, status_len);
-                stretch(r, hints_len);
-                stretch(r, log_len);
+            if let Call::Run { lengths: Lengths { status, calls, ways, hints, log }, .. } = &mut call {
+                for len in [status, calls, ways, hints, log] {
+                    stretch(r, len);
+                }
             }
             calls.push(call);
         }
     }
+}
+
+/// A small formula, all of its variables, and budgets from none to more than enough.
+fn every_variable(r: &mut Random, calls: &mut Vec<Call>) {
+    let vars = 1 + r.below(9) as u32;
+    let clauses = r.below(4 * u64::from(vars) + 3);
+    let entries = random_list(r, vars, clauses);
+    let held = few_held(r, vars);
+    let chunk_limit = one_of(r, &LIMITS);
+    for variable in 0..=vars + 1 {
+        let n = vars as usize;
+        let budget = u32::MAX;
+        let given = WitnessGiven { entries: &entries, vars, held: &held, budget, chunk_limit, variable, first_len: n, witness_len: n };
+        let needed = witness::witness(&given).map_or(0, |(run, ..)| run.tries as u32);
+        for budget in (0..=needed + 1).step_by(1 + needed as usize / 8).chain([needed, u32::MAX]) {
+            let mut call = exact_witness(entries.clone(), vars, held.clone(), budget, chunk_limit, variable);
+            if let Call::Witness { first_len, witness_len, .. } = &mut call {
+                stretch(r, first_len);
+                stretch(r, witness_len);
+            }
+            calls.push(call);
+        }
+    }
+}
+
+/// A larger witness, under a small budget.
+fn large_witness(r: &mut Random) -> Call {
+    let vars = 12 + r.below(120) as u32;
+    let clauses = 1 + r.below(4 * u64::from(vars));
+    let entries = random_list(r, vars, clauses.min(MAX_CLAUSES as u64));
+    let variable = 1 + r.below(vars.into()) as u32;
+    let held = few_held(r, vars);
+    exact_witness(entries, vars, held, r.below(2_000) as u32, one_of(r, &LIMITS), variable)
 }
 
 /// A small formula, all of its literals and every budget from none to more than enough.
@@ -326,20 +395,22 @@ fn refused(r: &mut Random) -> Call {
     let held = few_held(r, vars);
     let mut call = exact(list, vars, held, r.below(50) as u32, one_of(r, &LIMITS));
     for _ in 0..=r.below(3) {
-        let Call::Run { entries, vars, held, chunk_limit, status_len, hints_len, log_len, .. } = &mut call else { unreachable!("it is a run") };
-        match r.below(22) {
-            20 | 21 => {
+        let Call::Run { entries, vars, held, chunk_limit, lengths, .. } = &mut call else { unreachable!("it is a run") };
+        match r.below(24) {
+            22 | 23 => {
                 let above = (*vars).min(300) as i32 + 1;
                 let bad = one_of(r, &[0, above, -above, i32::MIN, i32::MAX]);
                 held.insert(r.below(held.len() as u64 + 1) as usize, bad);
             }
-            19 => held.resize(MAX_HELD - 1 + r.below(4) as usize, 1),
-            17 | 18 => *held = random_held(r, (*vars).min(300)),
-            16 => *hints_len = r.below(*hints_len as u64 + 1) as usize,
+            21 => held.resize(MAX_HELD - 1 + r.below(4) as usize, 1),
+            19 | 20 => *held = random_held(r, (*vars).min(300)),
+            16 => lengths.hints = r.below(lengths.hints as u64 + 1) as usize,
+            17 => lengths.calls = r.below(lengths.calls as u64 + 1) as usize,
+            18 => lengths.ways = r.below(lengths.ways as u64 + 1) as usize,
             0 => *vars = one_of(r, &[257, 258, 1 << 16, 1 << 31, u32::MAX]),
             1 => *chunk_limit = one_of(r, &[0, 257, 1 << 16, u32::MAX]),
-            2 => *status_len = r.below(*status_len as u64 + 1) as usize,
-            3 => *log_len = r.below(*log_len as u64 + 1) as usize,
+            2 => lengths.status = r.below(lengths.status as u64 + 1) as usize,
+            3 => lengths.log = r.below(lengths.log as u64 + 1) as usize,
             4 => {
                 entries.pop();
             }
@@ -363,8 +434,8 @@ fn refused(r: &mut Random) -> Call {
         }
     }
     match call {
-        Call::Run { entries, vars, held, budget, status_len, .. } if r.below(4) == 0 => {
-            Call::Setup { entries, vars, held, budget, values_len: status_len }
+        Call::Run { entries, vars, held, budget, lengths, .. } if r.below(4) == 0 => {
+            Call::Setup { entries, vars, held, budget, values_len: lengths.status }
         }
         run => run,
     }
@@ -436,7 +507,7 @@ fn random_bytes(r: &mut Random) -> Vec<u8> {
     (0..r.below(60)).map(|_| if any { r.below(256) as u8 } else { one_of(r, BYTES) }).collect()
 }
 
-/// A text at random, read and as a table.
+/// A text at random, read, as a table and as the lines of a witness.
 fn some_text(r: &mut Random, calls: &mut Vec<Call>) {
     let mut text = match r.below(32) {
         0 => long_text(r),
@@ -462,7 +533,10 @@ fn some_text(r: &mut Random, calls: &mut Vec<Call>) {
     let vars = rules::read(&text).map_or(3, |f| f.vars as u32);
     let held = if r.below(2) == 0 { Vec::new() } else { random_held(r, vars) };
     calls.push(Call::Read { text: text.clone(), room });
-    calls.push(Call::Table { text, held, room: table });
+    calls.push(Call::Table { text: text.clone(), held, room: table });
+    let mut lines = MAX_LINES;
+    stretch(r, &mut lines);
+    calls.push(Call::Lines { text, variable: r.below(8) as u32, room: lines });
 }
 
 /// The calls of one case at random.
@@ -471,6 +545,8 @@ pub fn random_calls(r: &mut Random) -> Vec<Call> {
     match r.below(64) {
         0 => calls.push(large(r)),
         1 => calls.push(large_why(r)),
+        2 => calls.push(large_witness(r)),
+        3..=6 => every_variable(r, &mut calls),
         x if x < 12 => every_budget(r, &mut calls),
         x if x < 16 => every_literal(r, &mut calls),
         x if x < 26 => calls.push(refused(r)),

@@ -20,6 +20,8 @@ mod shrink;
 mod texts;
 #[path = "../reference/why.rs"]
 mod why;
+#[path = "../reference/witness.rs"]
+mod witness;
 
 use std::collections::BTreeMap;
 use std::process::ExitCode;
@@ -30,11 +32,12 @@ use judge::judge;
 use texts::Random;
 
 /// The answers that must have been given at least once.
-const ANSWERS: [(&str, &[i64]); 4] = [
+const ANSWERS: [(&str, &[i64]); 5] = [
     ("read", &[0, 1, 2, 3, 4, 5, 6, 7, 8, 9]),
     ("run", &[0, 1, 10, 11, 12, 13, 15, 20, 21]),
     ("setup", &[0, 1, 10, 11, 12, 13, 15, 20, 21]),
     ("why", &[0, 1, 10, 11, 12, 13, 20, 21, 22]),
+    ("witness", &[0, 1, 10, 11, 12, 14, 21]),
 ];
 
 /// What was judged so far: how often each answer was given.

@@ -1,6 +1,6 @@
 //! A smaller case that still differs.
 
-use crate::case::{Call, Case};
+use crate::case::{Call, Case, Lengths};
 use crate::rules;
 use crate::texts::text_of;
 
@@ -71,6 +71,9 @@ fn smaller_texts(text: &[u8], held: &[i32]) -> Vec<(Vec<u8>, Vec<i32>)> {
 fn smaller(call: &Call) -> Vec<Call> {
     match call {
         Call::Read { text, room } => smaller_texts(text, &[]).into_iter().map(|(text, _)| Call::Read { text, room: *room }).collect(),
+        &Call::Lines { ref text, variable, room } => {
+            smaller_texts(text, &[]).into_iter().map(|(text, _)| Call::Lines { text, variable, room }).collect()
+        }
         Call::Table { text, held, room } => {
             smaller_texts(text, held).into_iter().map(|(text, held)| Call::Table { text, held, room: *room }).collect()
         }
@@ -85,14 +88,33 @@ fn smaller(call: &Call) -> Vec<Call> {
             all.extend(cuts(entries).into_iter().map(|list| with(list, budget)));
             all
         }
+        Call::Witness { entries, vars, held, budget, chunk_limit, variable, first_len, witness_len } => {
+            let (vars, chunk_limit, variable, first_len, witness_len) = (*vars, *chunk_limit, *variable, *first_len, *witness_len);
+            // the variable stays, and so do the others and what is held
+            let with = |entries: Vec<i32>, budget| {
+                let held = held.clone();
+                Call::Witness { entries, vars, held, budget, chunk_limit, variable, first_len, witness_len }
+            };
+            let mut all: Vec<Call> = cuts(&clauses_of(entries)).into_iter().map(|cs| with(cs.concat(), *budget)).collect();
+            for fewer in [0, budget / 2, budget.saturating_sub(1)].into_iter().filter(|b| b < budget) {
+                all.push(with(entries.clone(), fewer));
+            }
+            all.extend(cuts(entries).into_iter().map(|list| with(list, *budget)));
+            all
+        }
         // with fewer variables the buffers have as much room behind as before
-        Call::Run { entries, vars, held, budget, chunk_limit, status_len, hints_len, log_len } => {
+        Call::Run { entries, vars, held, budget, chunk_limit, lengths } => {
             let (vars, budget, chunk_limit) = (*vars, *budget, *chunk_limit);
             let with = |(fewer, entries, held): Held, budget, chunk_limit| {
                 let less = (vars - fewer) as usize;
-                let (status_len, hints_len) = (status_len.saturating_sub(less), hints_len.saturating_sub(less));
-                let log_len = log_len.saturating_sub(6 * less);
-                Call::Run { entries, vars: fewer, held, budget, chunk_limit, status_len, hints_len, log_len }
+                let lengths = Lengths {
+                    status: lengths.status.saturating_sub(less),
+                    calls: lengths.calls.saturating_sub(less),
+                    ways: lengths.ways.saturating_sub(less),
+                    hints: lengths.hints.saturating_sub(less),
+                    log: lengths.log.saturating_sub(6 * less),
+                };
+                Call::Run { entries, vars: fewer, held, budget, chunk_limit, lengths }
             };
             let same = || (vars, entries.clone(), held.clone());
             let mut all: Vec<Call> = lists(vars, entries, held).into_iter().map(|less| with(less, budget, chunk_limit)).collect();

@@ -13,12 +13,16 @@
 //!   reference --why-random PROGRAM SEED N     the same for N texts made from SEED
 //!   reference --why-solver SOLVER SEED N      for N formulas made from SEED: SOLVER must find that what is kept forces, and without one
 //!                                             does not
+//!   reference --witness PROGRAM FILE...       PROGRAM, started with a variable, must print two models as `witness.rs` does, which make all
+//!                                             clauses true and differ on the variable, for some variables of each file
+//!   reference --witness-random PROGRAM SEED N     the same for N texts made from SEED
 
 // one valid setup is compared by tests/outside
 #[allow(dead_code)]
 mod rules;
 mod texts;
 mod why;
+mod witness;
 
 use std::env;
 use std::fmt::Write as _;
@@ -26,7 +30,7 @@ use std::fs;
 use std::io::Write as _;
 use std::process::{Command, ExitCode, Stdio};
 
-use rules::{by_models, clauses_of, read, run_of, status_lines, table, with_held, Formula};
+use rules::{by_models, clauses_of, holds, read, run_of, status_lines, table, with_held, Formula};
 use texts::{random_held, random_text, text_of, Random};
 use why::{fault_of_kept, forces, WhyGiven};
 
@@ -256,6 +260,61 @@ fn lists_of(f: &Formula) -> Vec<Vec<i32>> {
     f.entries.split_inclusive(|&e| e == 0).map(|c| c[..c.len() - 1].to_vec()).collect()
 }
 
+// ---- a witness
+
+/// Why the two lines are no two models that differ on the variable, if they are none.
+fn fault_of_witness(text: &[u8], variable: u32, got: &str) -> Option<String> {
+    if got.starts_with("refused") {
+        return None;
+    }
+    let f = read(text).ok()?;
+    let clauses = clauses_of(&f.entries);
+    let models: Vec<Vec<bool>> = got.lines().map(|line| line.split(' ').map(|word| !word.starts_with('-')).collect()).collect();
+    let [first, second] = &models[..] else { return Some(String::from("it printed other than two lines")) };
+    let at = variable as usize - 1;
+    if first.len() != f.vars || second.len() != f.vars || first[at] == second[at] {
+        return Some(format!("the two do not differ on {variable}\n{got}"));
+    }
+    (!holds(&clauses, first) || !holds(&clauses, second)).then(|| format!("one is no model\n{got}"))
+}
+
+/// What is wrong with what the program prints for a text and a variable, if anything.
+fn witness_difference(program: &str, text: &[u8], variable: u32) -> Option<String> {
+    let got = match printed(program, &[variable.to_string()], text) {
+        Err(e) => return Some(format!("{program}: {e}")),
+        Ok(bytes) => String::from_utf8_lossy(&bytes).into_owned(),
+    };
+    let expected = witness::lines(text, variable);
+    if got != expected {
+        return Some(format!("expected\n{expected}but it printed\n{got}"));
+    }
+    fault_of_witness(text, variable, &got)
+}
+
+/// Variables to ask about: up to two for each call and way that settled one, 0 and one above V.
+fn variables_of(text: &[u8]) -> Vec<u32> {
+    let Ok(f) = read(text) else { return vec![1] };
+    let r = run_of(&f, &[]).expect("no rule refuses what was read");
+    let how = |v: u32| (r.calls[v as usize - 1], r.ways[v as usize - 1]);
+    let few = (1..=f.vars as u32).filter(|&v| (1..v).filter(|&u| how(u) == how(v)).count() < 2);
+    few.chain([0, f.vars as u32 + 1]).collect()
+}
+
+fn witness_against(program: &str, texts: &[Text]) -> ExitCode {
+    let (mut asked, mut wrong) = (0, 0);
+    for (name, text, _) in texts {
+        for variable in variables_of(text) {
+            asked += 1;
+            if let Some(what) = witness_difference(program, text, variable) {
+                println!("{name}, variable {variable}: {what}");
+                wrong += 1;
+            }
+        }
+    }
+    println!("{} texts, {asked} variables, {wrong} differ", texts.len());
+    if wrong == 0 { ExitCode::SUCCESS } else { ExitCode::FAILURE }
+}
+
 // ---- families
 
 fn at_most_one(vars: &[i32]) -> Vec<Vec<i32>> {
@@ -342,7 +401,7 @@ fn against(program: &str, texts: &[Text]) -> ExitCode {
 fn main() -> ExitCode {
     let args: Vec<String> = env::args().skip(1).collect();
     let done = match args.iter().map(String::as_str).collect::<Vec<_>>()[..] {
-        [word @ ("--random" | "--why-random" | "--why-solver"), program, seed, n] => {
+        [word @ ("--random" | "--why-random" | "--why-solver" | "--witness-random"), program, seed, n] => {
             let (Ok(seed), Ok(n)) = (seed.parse::<u64>(), n.parse::<u64>()) else {
                 eprintln!("SEED and N are numbers");
                 return ExitCode::FAILURE;
@@ -365,8 +424,13 @@ fn main() -> ExitCode {
                     (format!("text {i}, {:?} with {held:?}", String::from_utf8_lossy(&text)), text, held)
                 })
                 .collect();
-            return if word == "--random" { against(program, &texts) } else { why_against(program, &texts) };
+            return match word {
+                "--random" => against(program, &texts),
+                "--why-random" => why_against(program, &texts),
+                _ => witness_against(program, &texts),
+            };
         }
+        ["--witness", program, ..] => files_of(&args[2..]).map(|texts| witness_against(program, &texts)),
         ["--why", program, ..] => files_of(&args[2..]).map(|texts| why_against(program, &texts)),
         ["--against", program, ..] => files_of(&args[2..]).map(|texts| against(program, &texts)),
         ["--solver", solver, ..] => files_of(&args[2..]).and_then(|texts| against_solver(solver, &texts)),

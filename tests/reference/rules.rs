@@ -230,6 +230,8 @@ pub struct Given<'a> {
     pub budget: u32,
     pub chunk_limit: u32,
     pub status_len: usize,
+    pub calls_len: usize,
+    pub ways_len: usize,
     pub hints_len: usize,
     pub log_len: usize,
 }
@@ -239,8 +241,12 @@ pub struct Report {
     pub answer: u32,
     pub tries: u64,
     pub status: Vec<u8>,
+    pub calls: Vec<u32>,
+    pub ways: Vec<u8>,
     pub hints: Vec<u32>,
     pub log: Vec<[u64; 6]>,
+    /// The models that the calls found, each with its call's number; the first one is call 1's.
+    pub models: Vec<(u32, Vec<bool>)>,
 }
 
 impl Report {
@@ -251,6 +257,22 @@ impl Report {
     pub fn free(&self) -> usize {
         self.status.iter().filter(|&&s| s == 1).count()
     }
+
+    /// Notes the call and the way of what it settled.
+    fn settle(&mut self, literals: &[i32], call: u64, way: u8) {
+        for l in literals {
+            let i = l.unsigned_abs() as usize - 1;
+            self.calls[i] = call as u32;
+            self.ways[i] = way;
+        }
+    }
+}
+
+/// Takes out of a list what does not pass.
+fn drop_of(list: &mut Vec<i32>, keep: impl Fn(i32) -> bool) -> Vec<i32> {
+    let dropped = list.iter().copied().filter(|&l| !keep(l)).collect();
+    list.retain(|&l| keep(l));
+    dropped
 }
 
 /// Why a list with literals held is refused, if it is, with limits that may be bad and buffers that may be short.
@@ -305,13 +327,14 @@ pub fn run(g: &Given) -> Result<Report, Refusal> {
     let vars = g.vars as usize;
     let limit = g.chunk_limit as usize;
     let bad_limits = vars > MAX_VARS || limit == 0 || limit > MAX_VARS;
-    let short = g.status_len < vars || g.hints_len < vars || g.log_len < 6 * (vars + 1);
+    let lengths = [g.status_len, g.calls_len, g.ways_len, g.hints_len];
+    let short = lengths.iter().any(|&len| len < vars) || g.log_len < 6 * (vars + 1);
     if let Some(refusal) = refusal(bad_limits, short, g.entries, g.vars, g.held) {
         return Err(refusal);
     }
     let clauses = with_held(g.entries, g.held);
     let mut meter = Meter { budget: g.budget.into(), spent: 0 };
-    let mut r = Report { status: vec![0; vars], hints: vec![0; vars], ..Report::default() };
+    let mut r = Report { status: vec![0; vars], calls: vec![0; vars], ways: vec![0; vars], hints: vec![0; vars], ..Report::default() };
     let mut first: Vec<bool> = Vec::new();
     let mut candidates: Vec<i32> = Vec::new();
     let mut forced: Vec<i32> = Vec::new();
@@ -335,16 +358,16 @@ pub fn run(g: &Given) -> Result<Report, Refusal> {
                     r.hints = (0..vars).map(|i| hint(&clauses, &first, i)).collect();
                     candidates = (1..=vars as i32).map(|v| if first[v as usize - 1] { v } else { -v }).collect();
                 }
-                let all = candidates.len();
-                candidates.retain(|&l| model[l.unsigned_abs() as usize - 1] == (l > 0));
-                let compared = candidates.len();
-                candidates.retain(|&l| {
+                let compared = drop_of(&mut candidates, |l| model[l.unsigned_abs() as usize - 1] == (l > 0));
+                let flipped = drop_of(&mut candidates, |l| {
                     let mut other = model.clone();
                     other[l.unsigned_abs() as usize - 1] = l < 0;
                     !holds(&clauses, &other)
                 });
-                let flipped = candidates.len();
-                r.log.push([number, 1, taken, (all - compared) as u64, (compared - flipped) as u64, meter.spent - before]);
+                r.settle(&compared, number, 1);
+                r.settle(&flipped, number, 2);
+                r.log.push([number, 1, taken, compared.len() as u64, flipped.len() as u64, meter.spent - before]);
+                r.models.push((number as u32, model));
                 size = 1;
             }
             End::None => {
@@ -354,6 +377,7 @@ pub fn run(g: &Given) -> Result<Report, Refusal> {
                     r.tries = meter.spent;
                     return Ok(r);
                 }
+                r.settle(&chunk, number, 3);
                 forced.extend(&chunk);
                 candidates.drain(..chunk.len());
                 size = (2 * size).min(limit);
@@ -382,7 +406,9 @@ pub fn run(g: &Given) -> Result<Report, Refusal> {
 pub fn run_of(f: &Formula, held: &[i32]) -> Result<Report, Refusal> {
     let vars = f.vars as u32;
     let log_len = 6 * (f.vars + 1);
-    run(&Given { entries: &f.entries, vars, held, budget: 1_000_000, chunk_limit: 16, status_len: f.vars, hints_len: f.vars, log_len })
+    let (status_len, calls_len, ways_len, hints_len) = (f.vars, f.vars, f.vars, f.vars);
+    let (budget, chunk_limit) = (1_000_000, 16);
+    run(&Given { entries: &f.entries, vars, held, budget, chunk_limit, status_len, calls_len, ways_len, hints_len, log_len })
 }
 
 // ---- one valid setup

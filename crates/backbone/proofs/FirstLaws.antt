@@ -3,15 +3,17 @@
 --   copied-whole      all of one list put over another of its length
 --   shows-begun, room-begun, row-begun, ready-begun     cleared buffers show a run that has begun, and there is room for its first row
 --   first-over, first-clauses, first-called     what the first call needs and is, and what its end says
+--   shows-none, cleared-lent     and that every record is open
+--   records-first     the records behind the first model
 --   done-by-row       the first call found no model, or was stopped
---   first-at, done-from-model     the first call found a model
+--   first-at, done-from-model, records-from-model     the first call found a model
 --   hints-done        the hints of the first model, or of none, are those of the rules
 --
 -- Assumes nothing.
 use mathlib.Core.Path.{_≡_, refl, sym, _∙_, ap}
 use mathlib.Core.Logic.{_≢_, _⊎_, inl, inr}
-use mathlib.Core.List.{List, [], _++_, append-nil}
-use Prim.Native.Nat.{ℕ, _+_, _-_, _*_, _≤_}
+use mathlib.Core.List.{List, [], _∷_, _++_, append-nil}
+use Prim.Native.Nat.{ℕ, zero, suc, _+_, _-_, _*_, _≤_}
 use native.Mathlib.Omega.{arith}
 use lib.IntN.{ℤ}
 use lib.ListN.{length, take, drop, replicate, length-replicate, drop-of-length-le}
@@ -21,12 +23,14 @@ use Rattle.rules.specs.declared.Report.{Report}
 use Rattle.rules.specs.Numbers.{maxVars}
 use Rattle.rules.specs.Meaning.{Values, clauses}
 use Rattle.rules.specs.Search.{Call, model, no-model, stopped}
+use Rattle.rules.specs.Records.{openRecord, callsOf, waysOf}
 use Rattle.rules.specs.Run.{Task, opens, blank, begun, afterModel, firstCall, onFirst, chunks, run}
 use Rattle.rules.specs.Hints.{hintAt, hintsIn, hintsOf}
 use Rattle.rules.specs.Trace.{Reached, first-model}
 use Rattle.rules.specs.Answer.{logLength}
 use Rattle.rules.specs.Lists.{tabled}
 use Rattle.rules.proofs.LogLaws.{blank-counts}
+use Rattle.rules.proofs.RecordLaws.{records-begun, first-none-records}
 use Rattle.rules.proofs.HintTheorems.{first-model as model-found}
 use Rattle.formula.specs.Starts.{callClauses}
 use Rattle.formula.specs.Formula.{Formula}
@@ -39,6 +43,9 @@ use Rattle.calls.specs.declared.after.Made.{Made}
 use Rattle.calls.specs.declared.next.Limits.{Limits}
 use Rattle.calls.specs.After.{Shows, EndsAt, RowRoom, RowLeft, TallyReady}
 use Rattle.calls.specs.Next.{At, task}
+use Rattle.calls.specs.Records.{ShowsRecords, RecordsLent}
+use Rattle.calls.proofs.RecordLaws.{records-model}
+use Rattle.steps.specs.Records.{RecordsPut}
 use Rattle.steps.specs.Hint.{hintIn, HintsPut}
 use Rattle.steps.proofs.HintLaws.{hints-of-total, hints-of-blank}
 use Rattle.calls.proofs.AfterLaws.{ends-row}
@@ -54,7 +61,7 @@ copied-whole xs ys e f =
 
 -- ---- before the first call
 
-module _ {status log : List ℕ} (w : Cleared status log) where
+module _ {status calls ways log : List ℕ} (w : Cleared status calls ways log) where
   pub log-len : length log ≡ logLength (length status)
   log-len = ap length (w .log-is) ∙ length-replicate (logLength (length status)) 0
 
@@ -95,6 +102,31 @@ module _ {status log : List ℕ} (w : Cleared status log) where
         forced-fit = rw q (omega arith);
       }
 
+-- cleared buffers show that every record is open
+open-calls : (n : ℕ) → replicate n 0 ≡ callsOf (replicate n openRecord)
+open-calls zero = refl
+open-calls (suc n) = ap (λ (cs : List ℕ). 0 ∷ cs) (open-calls n)
+
+open-ways : (n : ℕ) → replicate n 0 ≡ waysOf (replicate n openRecord)
+open-ways zero = refl
+open-ways (suc n) = ap (λ (ws : List ℕ). 0 ∷ ws) (open-ways n)
+
+pub shows-none : {status calls ways log : List ℕ} → Cleared status calls ways log → ShowsRecords (replicate (length status) openRecord) calls ways
+shows-none {status} w = record { calls-are = w .calls-are ∙ open-calls (length status); ways-are = w .ways-are ∙ open-ways (length status) }
+
+pub cleared-lent : {status calls ways log : List ℕ} → Cleared status calls ways log → RecordsLent status calls ways
+cleared-lent {status} w =
+    record {
+      calls-len = ap length (w .calls-are) ∙ length-replicate {A = ℕ} (length status) 0;
+      ways-len = ap length (w .ways-are) ∙ length-replicate {A = ℕ} (length status) 0;
+    }
+
+-- what the first model settles
+pub records-first : (k : Task) (m : Values) (t : ℕ) {n : ℕ} {first values status calls ways calls′ ways′ : List ℕ}
+    → ShowsRecords (replicate (k .vars) openRecord) calls ways → n ≡ 1 → first ≡ m → values ≡ m → status ≡ afterModel k (begun k m) 0 m t .statuses
+    → RecordsPut n first values status calls ways calls′ ways′ → ShowsRecords (afterModel k (begun k m) 0 m t .records) calls′ ways′
+records-first k m t x a b c d y = records-model k (begun k m) 0 m t (records-begun (k .vars)) x (rw (a, b, c, d) at y)
+
 -- ---- the first call
 
 module _ {es : List ℤ} {starts : List ℕ} {n : ℕ} (f : Formula n es starts) where
@@ -118,12 +150,12 @@ unfolding run
 run-first k c e = ap (λ (d : Call). onFirst d k) e
 
 -- where the first call found none, or was stopped: the row, and the values for a first model as they were
-pub done-by-row : (es : List ℤ) (limits : Limits) {vs after first : Values} {e : CallEnd} {status log log′ : List ℕ} {r : Report} (vars : ℕ)
-    {budget : ℕ} {t : Tally} → Cleared status log → t ≡ started vars → vars ≡ length status
+pub done-by-row : (es : List ℤ) (limits : Limits) {vs after first : Values} {e : CallEnd} {status calls ways log log′ : List ℕ} {r : Report} (vars : ℕ)
+    {budget : ℕ} {t : Tally} → Cleared status calls ways log → t ≡ started vars → vars ≡ length status
     → CallEnds (firstCall (task es (length status) limits)) vs budget e after → e .outcome ≢ Outcome.Model
     → RowLeft log t (e .outcome) (record { chunk = 0; spent = e .meter .spent }) r log′
-    → ListDone es (length status) limits first r first status log′
-done-by-row es limits {first = first} {e} {status} {log} {log′} {r} vars {t = t} w z n c ne x = go (was-otherwise c ne)
+    → ListDone es (length status) limits first r first status calls ways log′
+done-by-row es limits {first = first} {e} {status} {calls} {ways} {log} {log′} {r} vars {t = t} w z n c ne x = go (was-otherwise c ne)
   where
     k : Task
     k = task es (length status) limits
@@ -136,11 +168,20 @@ done-by-row es limits {first = first} {e} {status} {log} {log′} {r} vars {t = 
 
     go : ((firstCall k ≡ no-model (e .meter .spent)) × (e .outcome ≡ Outcome.NoModel))
         ⊎ ((firstCall k ≡ stopped (e .meter .spent)) × (e .outcome ≡ Outcome.Stopped))
-        → ListDone es (length status) limits first r first status log′
+        → ListDone es (length status) limits first r first status calls ways log′
     go (inl (q, o)) =
-        record { done = rw (run-first k _ q) (ends-row k (begun k []) t shows room Outcome.NoModel (rw o at x)); first-is = rw q }
+        let x = ends-row k (begun k []) t shows room Outcome.NoModel (rw o at x) in
+        record {
+          done = rw (run-first k _ q) (record { result-is = x .result-is; status-is = x .status-is; log-is = x .log-is });
+          records = rw (run-first k _ q, first-none-records k (e .meter .spent)) (shows-none w);
+          first-is = rw q;
+        }
     go (inr (q, o)) =
-        record { done = rw (run-first k _ q) (ends-row k (begun k []) t shows room Outcome.Stopped (rw o at x)); first-is = rw q }
+        record {
+          done = rw (run-first k _ q) (ends-row k (begun k []) t shows room Outcome.Stopped (rw o at x));
+          records = rw (run-first k _ q) (shows-none w);
+          first-is = rw q;
+        }
 
 pub reached-first : (k : Task) (m : Values) (t : ℕ) → firstCall k ≡ model m t → {size : ℕ} → size ≡ 1 → Reached k size (afterModel k (begun k m) 0 m t)
 reached-first k m t e z = rw z (first-model m t e)
@@ -149,6 +190,12 @@ abbrev pub first-at : (k : Task) (m : Values) (t : ℕ) → firstCall k ≡ mode
     → (u .size ≡ 1) × Shows (k .vars) (afterModel k (begun k m) 0 m t) u first status log → At k u first status log
 first-at k m t e w =
     record { progress = afterModel k (begun k m) 0 m t; reached = reached-first k m t e (w .0); shows = w .1 }
+
+-- and of the records
+pub records-from-model : (k : Task) (m : Values) (t : ℕ) → firstCall k ≡ model m t → {size : ℕ} → size ≡ 1 → {calls ways : List ℕ}
+    → ShowsRecords (chunks k size (afterModel k (begun k m) 0 m t) .progress .records) calls ways → ShowsRecords (run k .progress .records) calls ways
+records-from-model k m t e z w =
+    rw (run-first k (model m t) e ∙ ap (λ (n : ℕ). chunks k n (afterModel k (begun k m) 0 m t)) (sym z)) w
 
 pub done-from-model : (k : Task) (m : Values) (t : ℕ) → firstCall k ≡ model m t → {size : ℕ} → size ≡ 1 → {r : Report} {status log : List ℕ}
     → EndsAt (k .vars) (chunks k size (afterModel k (begun k m) 0 m t)) r status log → RunDone k r status log
@@ -175,9 +222,9 @@ hints-judged k {vs} e = ap (λ (ws : Values). tabled (hintIn (k .formula) ws) 0 
     go (stopped t) q = none-found
 
 -- and so the run is done with them
-pub hints-done : (es : List ℤ) (vars : ℕ) (limits : Limits) {first between after : Values} {r : Report} {status hints log : List ℕ}
-    → first ≡ blank vars → ListDone es vars limits first r between status log → HintsPut (clauses es) between after hints
-    → HintsDone es vars limits r after status hints log
+pub hints-done : (es : List ℤ) (vars : ℕ) (limits : Limits) {first between after : Values} {r : Report} {status calls ways hints log : List ℕ}
+    → first ≡ blank vars → ListDone es vars limits first r between status calls ways log → HintsPut (clauses es) between after hints
+    → HintsDone es vars limits r after status calls ways hints log
 hints-done es vars limits e w p =
     let done = rw e at w in
     record { run-done = rw (p .values-same) done; hints-are = p .hints-are ∙ hints-judged (task es vars limits) (done .first-is) }

@@ -15,6 +15,7 @@ use Rattle.rules.specs.Answer.{logLength}
 use Rattle.formula.specs.Starts.{startsOf, StartsFound}
 use Rattle.formula.specs.Formula.{Formula}
 use Rattle.formula.proofs.StartsLaws.{found-front}
+use Rattle.calls.specs.Records.{RecordsLent}
 use Rattle.backbone.specs.First.{Cleared}
 
 -- the starts as they are found are those of the formula
@@ -22,11 +23,14 @@ pub found-formula : {vars n : ℕ} {es : List ℤ} {before after : List ℕ} →
     → Formula vars es (take (n + 1) after)
 found-formula f w = record { vars-fit = f .vars-fit; starts-fit = f .starts-fit; starts-are = found-front w; up-to = f .up-to }
 
-pub cleared : (status log : List ℕ) {status′ log′ : List ℕ} → length log ≡ logLength (length status) → length status′ ≡ length status
-    → status′ ≡ replicate (length status) 0 → log′ ≡ replicate (length log) 0 → Cleared status′ log′
-cleared status log n e s l =
+pub cleared : (status calls ways log : List ℕ) {status′ calls′ ways′ log′ : List ℕ} → RecordsLent status calls ways → length log ≡ logLength (length status)
+    → length status′ ≡ length status → status′ ≡ replicate (length status) 0 → calls′ ≡ replicate (length calls) 0
+    → ways′ ≡ replicate (length ways) 0 → log′ ≡ replicate (length log) 0 → Cleared status′ calls′ ways′ log′
+cleared status calls ways log o n e s c w l =
     record {
       status-is = s ∙ ap (λ (n : ℕ). replicate n 0) (sym e);
+      calls-are = c ∙ ap (λ (n : ℕ). replicate n 0) (o .calls-len ∙ sym e);
+      ways-are = w ∙ ap (λ (n : ℕ). replicate n 0) (o .ways-len ∙ sym e);
       log-is = l ∙ ap (λ (n : ℕ). replicate n 0) (n ∙ ap logLength (sym e));
     }
 

@@ -6,6 +6,8 @@
 --   settled-forced, settled-free, no-model-exactly     the published definition
 --   settled-none-open settled-same     a settled table has nothing open, and no limit changes it
 --   forced-sound, free-witness    what a stopped run has marked holds too
+--   recorded          the records: call and way of each variable, and that the log counts them
+--   free-pair         the first model and the witness of a free variable
 --   forced-held       the clause that a forced literal's hint names
 --   hints-none        the hints where there is no first model
 --   calls-most, tries-most, counted, logged     calls, tries, counts and the log
@@ -39,6 +41,9 @@ use Rattle.rules.specs.Answer.{Given, Buffers, given, logLength, refusalOf, tas
 use Rattle.rules.specs.Answer.{plainRefusal, plainTask, statusIf, statusAfter, hintsIf, hintsAfter, logIf, logAfter}
 use Rattle.rules.specs.RunRefusals.{Accepted, RunRefuses}
 use Rattle.rules.specs.Log.{LogOf}
+use Rattle.rules.specs.Records.{callsOf, waysOf}
+use Rattle.rules.specs.Recorded.{RecordsIn}
+use Rattle.rules.specs.Witness.{PairAt}
 use Rattle.rules.proofs.ListLaws.{never}
 use Rattle.rules.proofs.RunTrace.{run-ends}
 use Rattle.rules.proofs.Theorems as theorems
@@ -62,9 +67,10 @@ module _ {g : Given} {r : Report} {after : Buffers} (w : Runs g r after) where
   -- a refused run returns zero counts and writes nothing
   pub nothing-written : (a : Refusal) → RunRefuses g a
       → (r ≡ record { answer = RunAnswer.Refused a; calls = 0; tries = 0; forced = 0; free = 0 })
-      × (after .status ≡ g .status) × (after .hints ≡ g .hints) × (after .log ≡ g .log)
+      × (after .status ≡ g .status) × (after .calls ≡ g .calls) × (after .ways ≡ g .ways) × (after .hints ≡ g .hints) × (after .log ≡ g .log)
   nothing-written a h =
-      let (e, s, n, l) = theorems.run-refused-nothing g a h in (w .result-is ∙ e, w .status-is ∙ s, w .hints-are ∙ n, w .log-is ∙ l)
+      let (e, s, c, y, n, l) = theorems.run-refused-nothing g a h in
+      (w .result-is ∙ e, w .status-is ∙ s, w .calls-are ∙ c, w .ways-are ∙ y, w .hints-are ∙ n, w .log-is ∙ l)
 
   -- what an accepted run returns
   returned : Accepted g → r ≡ reportOfRun (run (taskOf g))
@@ -172,6 +178,32 @@ module _ {g : Given} {r : Report} {after : Buffers} (w : Runs g r after) where
       rw (returned h) (theorems.log-adds-up (taskOf g) limit),
     )
 
+    calls-are : take (g .vars) (after .calls) ≡ callsOf (run (taskOf g) .progress .records)
+    calls-are = ap (take (g .vars)) (w .calls-are) ∙ theorems.run-calls-buffer g h .0
+
+    ways-are : take (g .vars) (after .ways) ≡ waysOf (run (taskOf g) .progress .records)
+    ways-are = ap (take (g .vars)) (w .ways-are) ∙ theorems.run-ways-buffer g h .0
+
+    -- calls and ways are those of records with these statuses: 0 exactly while a variable is open, and each row's two drops, and its chunk if
+    -- it says 2, are the counts of the records with its call and way
+    pub recorded :
+        RecordsIn (g .vars) (r .calls) (take (g .vars) (after .status)) (take (g .vars) (after .calls)) (take (g .vars) (after .ways))
+        (take (logLength (g .vars)) (after .log))
+    recorded =
+        rw (
+          table-is,
+          calls-are,
+          ways-are,
+          ap (take (logLength (g .vars))) (w .log-is) ∙ theorems.run-log-buffer g h .0,
+          ap (λ (q : Report). q .calls) (returned h),
+        )
+        (theorems.records-in (taskOf g) limit)
+
+    -- however the run ended: the first model and the witness of a variable marked free are two models that differ on it
+    pub free-pair : (i : ℕ) → i < g .vars → statusAt (take (g .vars) (after .status)) i ≡ 1
+        → PairAt (g .vars) (withHeld (clauses (g .entries)) (g .held)) (run (taskOf g) .progress) i
+    free-pair = rw table-is (theorems.free-pair (taskOf g) limit)
+
     hints-are : take (g .vars) (after .hints) ≡ hintsOf (taskOf g)
     hints-are = ap (take (g .vars)) (w .hints-are) ∙ theorems.run-hints g h .0
 
@@ -189,12 +221,16 @@ module _ {g : Given} {r : Report} {after : Buffers} (w : Runs g r after) where
     pub hints-none : ((m : Values) (t : ℕ) → firstCall (taskOf g) ≡ model m t → ⊥) → take (g .vars) (after .hints) ≡ replicate (g .vars) 0
     hints-none ne = hints-are ∙ theorems.unhinted (taskOf g) ne
 
-    -- what stands behind the table, the hints and the rows stays
+    -- what stands behind the table, the records, the hints and the rows stays
     pub rest-stays : (drop (g .vars) (after .status) ≡ drop (g .vars) (g .status))
+        × (drop (g .vars) (after .calls) ≡ drop (g .vars) (g .calls))
+        × (drop (g .vars) (after .ways) ≡ drop (g .vars) (g .ways))
         × (drop (g .vars) (after .hints) ≡ drop (g .vars) (g .hints))
         × (drop (logLength (g .vars)) (after .log) ≡ drop (logLength (g .vars)) (g .log))
     rest-stays = (
       ap (drop (g .vars)) (w .status-is) ∙ theorems.run-status g h .1,
+      ap (drop (g .vars)) (w .calls-are) ∙ theorems.run-calls-buffer g h .1,
+      ap (drop (g .vars)) (w .ways-are) ∙ theorems.run-ways-buffer g h .1,
       ap (drop (g .vars)) (w .hints-are) ∙ theorems.run-hints g h .1,
       ap (drop (logLength (g .vars))) (w .log-is) ∙ theorems.run-log-buffer g h .1,
     )

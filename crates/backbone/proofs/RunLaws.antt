@@ -5,7 +5,7 @@
 --   runs-refused      a refused run: zero counts, and nothing is written
 --   runs-accepted     an accepted one: the run over the fronts of the buffers
 --   accepted          what no rule refuses
---   list, clauses-are, entries-most, is-formula, clauses-most, hints-len, log-len, allowed     and what its run requires
+--   list, clauses-are, entries-most, is-formula, clauses-most, records-lent, hints-len, log-len, allowed     and what its run requires
 --
 -- Assumes nothing.
 use mathlib.Core.Path.{_≡_, refl, sym, _∙_, ap}
@@ -23,9 +23,11 @@ use Rattle.rules.specs.declared.Report.{Report}
 use Rattle.rules.specs.Lists.{firstOf}
 use Rattle.rules.specs.Numbers.{maxClauses, maxEntries, maxHeld}
 use Rattle.rules.specs.Meaning.{Clause, clauses}
+use Rattle.rules.specs.Run.{run}
 use Rattle.rules.specs.Hints.{hintsOf}
 use Rattle.rules.specs.Held.{withHeld, listWith}
-use Rattle.rules.specs.Answer.{Given, Buffers, buffers, logLength, refusalOf, taskOf, reportIf, reportOf, statusIf, statusAfter, hintsIf, hintsAfter}
+use Rattle.rules.specs.Answer.{Given, Buffers, buffers, logLength, refusalOf, taskOf, reportIf, reportOf, statusIf, statusAfter}
+use Rattle.rules.specs.Answer.{callsIf, callsAfter, waysIf, waysAfter, hintsIf, hintsAfter}
 use Rattle.rules.specs.Answer.{takingRules, outOfLimits, isShort, logIf, logAfter, Runs}
 use Rattle.rules.specs.RunRefusals.{Accepted}
 use Rattle.rules.proofs.ListLaws.{apart}
@@ -39,6 +41,7 @@ use Rattle.formula.specs.Starts.{startsOf}
 use Rattle.formula.specs.Formula.{Formula}
 use Rattle.calls.specs.declared.next.Limits.{Limits}
 use Rattle.calls.specs.Next.{Allowed, task}
+use Rattle.calls.specs.Records.{ShowsRecords, RecordsLent}
 use Rattle.backbone.specs.First.{RunDone, HintsDone}
 
 pub found-some : (o : Option Refusal) {a : Refusal} → Refused a ≡ found o → o ≡ some a
@@ -61,13 +64,16 @@ module _ (g : Given) where
   checked-is b s e = rw (b, s) at e
 
   pub runs-refused : {a : Refusal} → Refused a ≡ found (refusalOf g)
-      → Runs g (record { answer = RunAnswer.Refused a; calls = 0; tries = 0; forced = 0; free = 0 }) (buffers (g .status) (g .hints) (g .log))
-  unfolding reportOf statusAfter hintsAfter logAfter
+      → Runs g (record { answer = RunAnswer.Refused a; calls = 0; tries = 0; forced = 0; free = 0 })
+      (buffers (g .status) (g .calls) (g .ways) (g .hints) (g .log))
+  unfolding reportOf statusAfter callsAfter waysAfter hintsAfter logAfter
   runs-refused e =
       let o = found-some (refusalOf g) e in
       record {
         result-is = ap (λ (r : Option Refusal). reportIf r (taskOf g)) (sym o);
         status-is = ap (λ (r : Option Refusal). statusIf r (taskOf g) (g .status)) (sym o);
+        calls-are = ap (λ (r : Option Refusal). callsIf r (taskOf g) (g .calls)) (sym o);
+        ways-are = ap (λ (r : Option Refusal). waysIf r (taskOf g) (g .ways)) (sym o);
         hints-are = ap (λ (r : Option Refusal). hintsIf r (taskOf g) (g .hints)) (sym o);
         log-is = ap (λ (r : Option Refusal). logIf r (taskOf g) (g .log)) (sym o);
       }
@@ -118,16 +124,26 @@ module _ (g : Given) where
     pub allowed : Allowed (limitsOf g)
     allowed = record { some = accepted .listed .lent .in-limits .limit-some; most = accepted .listed .lent .in-limits .limit-fits }
 
-    -- the fronts that were written, and what stood behind them
-    abbrev pub rejoined : List ℕ → List ℕ → List ℕ → Buffers
-    rejoined status hints log =
-        buffers (status ++ drop (g .vars) (g .status)) (hints ++ drop (g .vars) (g .hints)) (log ++ drop (logLength (g .vars)) (g .log))
+    pub records-lent : RecordsLent (take (g .vars) (g .status)) (take (g .vars) (g .calls)) (take (g .vars) (g .ways))
+    records-lent =
+        record {
+          calls-len = length-take-le (g .vars) (g .calls) (accepted .listed .lent .calls-fit) ∙ sym status-len;
+          ways-len = length-take-le (g .vars) (g .ways) (accepted .listed .lent .ways-fit) ∙ sym status-len;
+        }
 
-    pub runs-accepted : {r : Report} {first status hints log : List ℕ}
-        → HintsDone list (length (take (g .vars) (g .status))) (limitsOf g) r first status hints log → Runs g r (rejoined status hints log)
-    unfolding reportOf statusAfter hintsAfter logAfter
-    runs-accepted {r} {first} {status} {hints} {log} w =
-        let d = rw status-len at w in go (rw task-is at (d .run-done .done)) (d .hints-are ∙ ap hintsOf task-is)
+    -- the fronts that were written, and what stood behind them
+    abbrev pub rejoined : List ℕ → List ℕ → List ℕ → List ℕ → List ℕ → Buffers
+    rejoined status calls ways hints log =
+        buffers (status ++ drop (g .vars) (g .status)) (calls ++ drop (g .vars) (g .calls)) (ways ++ drop (g .vars) (g .ways))
+        (hints ++ drop (g .vars) (g .hints)) (log ++ drop (logLength (g .vars)) (g .log))
+
+    pub runs-accepted : {r : Report} {first status calls ways hints log : List ℕ}
+        → HintsDone list (length (take (g .vars) (g .status))) (limitsOf g) r first status calls ways hints log
+        → Runs g r (rejoined status calls ways hints log)
+    unfolding reportOf statusAfter callsAfter waysAfter hintsAfter logAfter
+    runs-accepted {r} {first} {status} {calls} {ways} {hints} {log} w =
+        let d = rw status-len at w in
+        go (rw task-is at (d .run-done .done)) (rw task-is at (d .run-done .records)) (d .hints-are ∙ ap hintsOf task-is)
       where
         task-is : task list (g .vars) (limitsOf g) ≡ taskOf g
         task-is = ap (λ (F : List Clause). record { vars = g .vars; budget = g .budget; limit = g .limit; formula = F }) clauses-are
@@ -135,12 +151,17 @@ module _ (g : Given) where
         o : refusalOf g ≡ none
         o = found-none (refusalOf g) e
 
-        go : RunDone (taskOf g) r status log → hints ≡ hintsOf (taskOf g) → Runs g r (rejoined status hints log)
-        go w h =
+        go : RunDone (taskOf g) r status log → ShowsRecords (run (taskOf g) .progress .records) calls ways → hints ≡ hintsOf (taskOf g)
+            → Runs g r (rejoined status calls ways hints log)
+        go w x h =
             record {
               result-is = w .result-is ∙ ap (λ (r : Option Refusal). reportIf r (taskOf g)) (sym o);
               status-is = ap (λ (xs : List ℕ). xs ++ drop (g .vars) (g .status)) (w .status-is)
                   ∙ ap (λ (r : Option Refusal). statusIf r (taskOf g) (g .status)) (sym o);
+              calls-are = ap (λ (xs : List ℕ). xs ++ drop (g .vars) (g .calls)) (x .calls-are)
+                  ∙ ap (λ (r : Option Refusal). callsIf r (taskOf g) (g .calls)) (sym o);
+              ways-are = ap (λ (xs : List ℕ). xs ++ drop (g .vars) (g .ways)) (x .ways-are)
+                  ∙ ap (λ (r : Option Refusal). waysIf r (taskOf g) (g .ways)) (sym o);
               hints-are = ap (λ (xs : List ℕ). xs ++ drop (g .vars) (g .hints)) h
                   ∙ ap (λ (r : Option Refusal). hintsIf r (taskOf g) (g .hints)) (sym o);
               log-is = ap (λ (xs : List ℕ). xs ++ drop (logLength (g .vars)) (g .log)) (w .log-is)

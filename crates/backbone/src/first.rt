@@ -16,6 +16,7 @@ use search::call::CallEnd;
 use search::call::go_on;
 use search::meter::Meter;
 use steps::hint::put_hints;
+use steps::records::put_records;
 ghost use mathlib.Core.Path.{_≡_};
 ghost use lib.ListN.{length};
 ghost use Rattle.rules.specs.Held.{listWith};
@@ -68,13 +69,15 @@ fn settle(
     values: &mut [u8],
     first: &mut [u8],
     status: &mut [u8],
+    calls: &mut [u32],
+    ways: &mut [u8],
     log: &mut [u32],
     spent: u32,
     limits: Limits,
 ) -> Report
-    requires { ⌜ FirstFound (now entries) (now starts) (now values) (now first) (now status) (now log) spent limits ⌝ }
+    requires { ⌜ FirstFound (now entries) (now starts) (now values) (now first) (now status) (now calls) (now ways) (now log) spent limits ⌝ }
     ensures { λ r. ⌜ ListDone (now (entries .entry)) (length (now (status .entry))) limits (now (first .entry))
-        r (now (first .exit)) (now (status .exit)) (now (log .exit)) ⌝ }
+        r (now (first .exit)) (now (status .exit)) (now (calls .exit)) (now (ways .exit)) (now (log .exit)) ⌝ }
 {
     copy_first(values, first, values.len());
     let t = started(values.len() as u32);
@@ -83,7 +86,19 @@ fn settle(
         spent: spent,
     };
     let next = after_model(entries, starts, first, values, status, log, t, made);
-    run_calls(entries, starts, first, status, log, values, next, limits)
+    put_records(first, values, status, calls, ways, next.calls);
+    run_calls(
+        entries,
+        starts,
+        first,
+        status,
+        calls,
+        ways,
+        log,
+        values,
+        next,
+        limits,
+    )
 }
 
 // All calls: a first model is settled by the calls that follow; anything else is one row.
@@ -95,19 +110,32 @@ fn all_calls(
     values: &mut [u8],
     first: &mut [u8],
     status: &mut [u8],
+    calls: &mut [u32],
+    ways: &mut [u8],
     log: &mut [u32],
     limits: Limits,
 ) -> Report
-    requires { ⌜ CallsBegin (now entries) (now starts) (now values) (now first) (now status) (now log) limits ⌝ }
+    requires { ⌜ CallsBegin (now entries) (now starts) (now values) (now first) (now status) (now calls) (now ways) (now log) limits ⌝ }
     ensures { λ r. ⌜ ListDone (now (entries .entry)) (length (now (status .entry))) limits (now (first .entry))
-        r (now (first .exit)) (now (status .exit)) (now (log .exit)) ⌝ }
+        r (now (first .exit)) (now (status .exit)) (now (calls .exit)) (now (ways .exit)) (now (log .exit)) ⌝ }
 {
     let end = first_call(entries, starts, values, limits.budget);
     let meter = end.meter;
     let spent = meter.spent;
     let outcome = end.outcome;
     if let Outcome::Model = outcome {
-        return settle(entries, starts, values, first, status, log, spent, limits);
+        return settle(
+            entries,
+            starts,
+            values,
+            first,
+            status,
+            calls,
+            ways,
+            log,
+            spent,
+            limits,
+        );
     }
     row_only(
         log,
@@ -128,12 +156,14 @@ fn room_for_values(
     starts: &[u16],
     first: &mut [u8],
     status: &mut [u8],
+    calls: &mut [u32],
+    ways: &mut [u8],
     log: &mut [u32],
     limits: Limits,
 ) -> Report
-    requires { ⌜ RunBegins (now entries) (now starts) (now first) (now status) (now log) limits ⌝ }
+    requires { ⌜ RunBegins (now entries) (now starts) (now first) (now status) (now calls) (now ways) (now log) limits ⌝ }
     ensures { λ r. ⌜ ListDone (now (entries .entry)) (length (now (status .entry))) limits (now (first .entry))
-        r (now (first .exit)) (now (status .exit)) (now (log .exit)) ⌝ }
+        r (now (first .exit)) (now (status .exit)) (now (calls .exit)) (now (ways .exit)) (now (log .exit)) ⌝ }
 {
     let n = status.len();
     let mut values = [0u8; rules::MAX_VARS as usize];
@@ -143,6 +173,8 @@ fn room_for_values(
         &mut values[..n],
         first,
         status,
+        calls,
+        ways,
         log,
         limits,
     )
@@ -156,37 +188,43 @@ fn with_hints(
     starts: &[u16],
     first: &mut [u8],
     status: &mut [u8],
+    calls: &mut [u32],
+    ways: &mut [u8],
     hints: &mut [u32],
     log: &mut [u32],
     limits: Limits,
 ) -> Report
-    requires { ⌜ HintsBegin (now entries) (now starts) (now first) (now status) (now hints) (now log) limits ⌝ }
+    requires { ⌜ HintsBegin (now entries) (now starts) (now first) (now status) (now calls) (now ways) (now hints) (now log) limits ⌝ }
     ensures { λ r. ⌜ HintsDone (now (entries .entry)) (length (now (status .entry))) limits
-        r (now (first .exit)) (now (status .exit)) (now (hints .exit)) (now (log .exit)) ⌝ }
+        r (now (first .exit)) (now (status .exit)) (now (calls .exit)) (now (ways .exit)) (now (hints .exit)) (now (log .exit)) ⌝ }
 {
-    let report = room_for_values(entries, starts, first, status, log, limits);
+    let report = room_for_values(entries, starts, first, status, calls, ways, log, limits);
     put_hints(entries, starts, first, hints);
     report
 }
 
-// The run of a list that no rule refuses: every variable open, no row, and where the clauses start, once for all calls. The first
+// The run of a list that no rule refuses: every variable open, no record, no row, and where the clauses start, once for all calls. The first
 // model, if there is one, stands in `first` afterwards.
 // Rules out: statuses of an older run; rows of one.
-// Required of: held_run, for the list that it has made.
-fn accepted_run(
+// Required of: held_run and witness::answer::after_run, for the list that they have made.
+pub fn accepted_run(
     entries: &[i32],
     first: &mut [u8],
     status: &mut [u8],
+    calls: &mut [u32],
+    ways: &mut [u8],
     hints: &mut [u32],
     log: &mut [u32],
     limits: Limits,
 ) -> Report
-    requires { ⌜ ListTaken (now entries) (now first) (now status) (now hints) (now log) limits ⌝ }
+    requires { ⌜ ListTaken (now entries) (now first) (now status) (now calls) (now ways) (now hints) (now log) limits ⌝ }
     ensures { λ r. ⌜ HintsDone (now (entries .entry)) (length (now (status .entry))) limits
-        r (now (first .exit)) (now (status .exit)) (now (hints .exit)) (now (log .exit)) ⌝ }
+        r (now (first .exit)) (now (status .exit)) (now (calls .exit)) (now (ways .exit)) (now (hints .exit)) (now (log .exit)) ⌝ }
 {
     clear_bytes(first);
     clear_bytes(status);
+    clear_numbers(calls);
+    clear_bytes(ways);
     clear_numbers(log);
     let mut starts = [0u16; rules::MAX_STARTS];
     let count = find_starts(entries, &mut starts);
@@ -195,6 +233,8 @@ fn accepted_run(
         &starts[..count + 1],
         first,
         status,
+        calls,
+        ways,
         hints,
         log,
         limits,
@@ -209,15 +249,17 @@ pub fn held_run(
     held: &[i32],
     first: &mut [u8],
     status: &mut [u8],
+    calls: &mut [u32],
+    ways: &mut [u8],
     hints: &mut [u32],
     log: &mut [u32],
     limits: Limits,
 ) -> Report
-    requires { ⌜ ListTaken (listWith (now entries) (now held)) (now first) (now status) (now hints) (now log) limits ⌝ }
+    requires { ⌜ ListTaken (listWith (now entries) (now held)) (now first) (now status) (now calls) (now ways) (now hints) (now log) limits ⌝ }
     ensures { λ r. ⌜ HintsDone (listWith (now (entries .entry)) (now (held .entry))) (length (now (status .entry))) limits
-        r (now (first .exit)) (now (status .exit)) (now (hints .exit)) (now (log .exit)) ⌝ }
+        r (now (first .exit)) (now (status .exit)) (now (calls .exit)) (now (ways .exit)) (now (hints .exit)) (now (log .exit)) ⌝ }
 {
     let mut list = [0i32; rules::MAX_LIST];
     let n = put_list(entries, held, &mut list);
-    accepted_run(&list[..n], first, status, hints, log, limits)
+    accepted_run(&list[..n], first, status, calls, ways, hints, log, limits)
 }

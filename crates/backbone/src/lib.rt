@@ -4,8 +4,8 @@ ghost use Rattle.rules.specs.Answer.{given, buffers, Runs};
 pub mod first;
 
 // A run (docs/RULES.md, "Run" and "What comes back"): for each of the variables 1 to vars, whether it is forced or free where the held literals
-// are true, which clause holds it, and a row for each call. Every list, held literals, all buffers and every limit are answered; what is refused
-// writes nothing.
+// are true, by which call and in which way, and which clause holds it; and a row for each call. Every list, held literals, all buffers and every
+// limit are answered; what is refused writes nothing.
 // Rules out: an honest first call and the rest marked free; a stopped call logged as none.
 pub fn run(
     entries: &[i32],
@@ -14,15 +14,24 @@ pub fn run(
     budget: u32,
     chunk_limit: u32,
     status: &mut [u8],
+    calls: &mut [u32],
+    ways: &mut [u8],
     hints: &mut [u32],
     log: &mut [u32],
 ) -> rules::Report
     ensures { λ r. ⌜ Runs (given (now (entries .entry)) vars (now (held .entry)) budget «chunk_limit»
-        (buffers (now (status .entry)) (now (hints .entry)) (now (log .entry))))
-        r (buffers (now (status .exit)) (now (hints .exit)) (now (log .exit))) ⌝ }
+        (buffers (now (status .entry)) (now (calls .entry)) (now (ways .entry)) (now (hints .entry)) (now (log .entry))))
+        r (buffers (now (status .exit)) (now (calls .exit)) (now (ways .exit)) (now (hints .exit)) (now (log .exit))) ⌝ }
 {
     let bad_limits = refusals::out_of_limits(vars, chunk_limit);
-    let short = refusals::too_short(vars, status.len(), hints.len(), log.len());
+    let short = refusals::too_short(
+        vars,
+        status.len(),
+        calls.len(),
+        ways.len(),
+        hints.len(),
+        log.len(),
+    );
     let checked = refusals::refuse(bad_limits, short, entries, vars, held);
     match checked {
         refusals::Checked::Refused(refusal) => rules::Report {
@@ -40,6 +49,8 @@ pub fn run(
                 held,
                 &mut first[..n],
                 &mut status[..n],
+                &mut calls[..n],
+                &mut ways[..n],
                 &mut hints[..n],
                 &mut log[..6 * (n + 1)],
                 calls::next::Limits {

@@ -1,6 +1,7 @@
 // The run on the small formulas of docs/RULES.md, "Small formulas", and on what it refuses ("What comes back"). A line a run: its
-// name, number and place, calls, tries, forced and free, the status bytes, all hints, the rows of the calls begun, and how many elements
-// of each buffer are still 7, which all of them were before. `crates/backbone_test/stdout` was written by hand from the page.
+// name, number and place, calls, tries, forced and free, the status bytes, the calls and the ways that settled the variables, the hints,
+// the rows of the calls begun, and how many elements of each buffer are still 7, which all of them were before.
+// `crates/backbone_test/stdout` was written by hand from the page.
 use libc::STDOUT_FILENO;
 use rules::Report;
 use rules::numbers::run_number;
@@ -15,17 +16,32 @@ fn field(n: u64) {
     io::print_decimal(STDOUT_FILENO, n);
 }
 
-fn show_status(i: usize, byte: u8, vars: u32) {
+fn show_byte(i: usize, byte: u8, vars: u32) {
     if i < vars as usize {
         field(byte as u64);
     }
 }
 
-// The status bytes of the variables.
-fn show_statuses(status: &[u8], vars: u32) {
+// The bytes of the variables: statuses, ways.
+fn show_bytes(bytes: &[u8], vars: u32) {
     let mut i = 0;
-    while i < status.len() {
-        show_status(i, status[i], vars);
+    while i < bytes.len() {
+        show_byte(i, bytes[i], vars);
+        i += 1;
+    }
+}
+
+fn show_entry(i: usize, n: u32, vars: u32) {
+    if i < vars as usize {
+        field(n as u64);
+    }
+}
+
+// The numbers of the variables: calls, hints.
+fn show_entries(numbers: &[u32], vars: u32) {
+    let mut i = 0;
+    while i < numbers.len() {
+        show_entry(i, numbers[i], vars);
         i += 1;
     }
 }
@@ -46,7 +62,7 @@ fn show_number(i: usize, n: u32, calls: u32) {
     }
 }
 
-// So many rows of six numbers: those of the calls begun, and of hints, which are fewer than six here, all that are lent.
+// The rows of the calls begun, six numbers each.
 fn show_rows(log: &[u32], calls: u32) {
     let mut i = 0;
     while i < log.len() {
@@ -92,15 +108,27 @@ fn show_report(name: &[u8], r: Report) {
     field(r.free as u64);
 }
 
-fn show_buffers(vars: u32, calls: u32, status: &[u8], hints: &[u32], log: &[u32]) {
+fn show_settled(vars: u32, status: &[u8], calls: &[u32], ways: &[u8]) {
     word(b" status");
-    show_statuses(status, vars);
+    show_bytes(status, vars);
+    word(b" calls");
+    show_entries(calls, vars);
+    word(b" ways");
+    show_bytes(ways, vars);
+}
+
+fn show_run(vars: u32, begun: u32, hints: &[u32], log: &[u32]) {
     word(b" hints");
-    show_rows(hints, 1);
+    show_entries(hints, vars);
     word(b" log");
-    show_rows(log, calls);
+    show_rows(log, begun);
+}
+
+fn show_kept(status: &[u8], calls: &[u32], ways: &[u8], hints: &[u32], log: &[u32]) {
     word(b" kept");
     field(bytes_kept(status));
+    field(numbers_kept(calls));
+    field(bytes_kept(ways));
     field(numbers_kept(hints));
     field(numbers_kept(log));
     word(b"\n");
@@ -114,17 +142,34 @@ fn show(
     budget: u32,
     limit: u32,
     status: &mut [u8],
+    calls: &mut [u32],
+    ways: &mut [u8],
     hints: &mut [u32],
     log: &mut [u32],
 ) {
-    let r = backbone::run(entries, vars, held, budget, limit, status, hints, log);
+    let r = backbone::run(
+        entries,
+        vars,
+        held,
+        budget,
+        limit,
+        status,
+        calls,
+        ways,
+        hints,
+        log,
+    );
     show_report(name, r);
-    show_buffers(vars, r.calls, status, hints, log);
+    show_settled(vars, status, calls, ways);
+    show_run(vars, r.calls, hints, log);
+    show_kept(status, calls, ways, hints, log);
 }
 
 // A run with an element more in each buffer than three variables have.
 fn show_all(name: &[u8], entries: &[i32], vars: u32, held: &[i32], budget: u32, limit: u32) {
     let mut status = [7u8; 4];
+    let mut calls = [7u32; 4];
+    let mut ways = [7u8; 4];
     let mut hints = [7u32; 4];
     let mut log = [7u32; 25];
     show(
@@ -135,6 +180,8 @@ fn show_all(name: &[u8], entries: &[i32], vars: u32, held: &[i32], budget: u32, 
         budget,
         limit,
         &mut status,
+        &mut calls,
+        &mut ways,
         &mut hints,
         &mut log,
     );
@@ -146,10 +193,29 @@ fn show_within(name: &[u8], entries: &[i32], vars: u32, budget: u32, limit: u32)
     show_all(name, entries, vars, &none, budget, limit);
 }
 
-// Three variables, nothing held, budget 100 and chunk limit 2, with these buffers.
-fn show_lent(name: &[u8], entries: &[i32], status: &mut [u8], hints: &mut [u32], log: &mut [u32]) {
+// Three variables, one of them on, budget 100 and chunk limit 2, with these buffers.
+fn show_lent(
+    name: &[u8],
+    status: &mut [u8],
+    calls: &mut [u32],
+    ways: &mut [u8],
+    hints: &mut [u32],
+    log: &mut [u32],
+) {
     let none = [0i32; 0];
-    show(name, entries, 3, &none, 100, 2, status, hints, log);
+    show(
+        name,
+        &[1, 2, 3, 0],
+        3,
+        &none,
+        100,
+        2,
+        status,
+        calls,
+        ways,
+        hints,
+        log,
+    );
 }
 
 // Literals held, budget 100 and chunk limit 2.
@@ -201,17 +267,62 @@ fn limit_cases() {
 
 // 1.
 fn buffer_cases() {
-    let list = [1i32, 2, 3, 0];
     let mut status = [7u8; 3];
+    let mut calls = [7u32; 3];
+    let mut ways = [7u8; 3];
     let mut hints = [7u32; 3];
     let mut rows = [7u32; 24];
     let mut two = [7u8; 2];
-    show_lent(b"status_short", &list, &mut two, &mut hints, &mut rows);
     let mut few = [7u32; 2];
-    show_lent(b"hints_short", &list, &mut status, &mut few, &mut rows);
     let mut less = [7u32; 23];
-    show_lent(b"log_short", &list, &mut status, &mut hints, &mut less);
-    show_lent(b"buffers_right", &list, &mut status, &mut hints, &mut rows);
+    show_lent(
+        b"status_short",
+        &mut two,
+        &mut calls,
+        &mut ways,
+        &mut hints,
+        &mut rows,
+    );
+    show_lent(
+        b"calls_short",
+        &mut status,
+        &mut few,
+        &mut ways,
+        &mut hints,
+        &mut rows,
+    );
+    show_lent(
+        b"ways_short",
+        &mut status,
+        &mut calls,
+        &mut two,
+        &mut hints,
+        &mut rows,
+    );
+    show_lent(
+        b"hints_short",
+        &mut status,
+        &mut calls,
+        &mut ways,
+        &mut few,
+        &mut rows,
+    );
+    show_lent(
+        b"log_short",
+        &mut status,
+        &mut calls,
+        &mut ways,
+        &mut hints,
+        &mut less,
+    );
+    show_lent(
+        b"buffers_right",
+        &mut status,
+        &mut calls,
+        &mut ways,
+        &mut hints,
+        &mut rows,
+    );
 }
 
 // 11.
@@ -244,6 +355,8 @@ fn above_cases() {
 // The order 10, 1, 11, 12, and within 11: too many entries, not ended, too many zeros.
 fn order_cases() {
     let mut two = [7u8; 2];
+    let mut calls = [7u32; 3];
+    let mut ways = [7u8; 3];
     let mut hints = [7u32; 3];
     let mut log = [7u32; 25];
     let none = [0i32; 0];
@@ -255,6 +368,8 @@ fn order_cases() {
         100,
         0,
         &mut two,
+        &mut calls,
+        &mut ways,
         &mut hints,
         &mut log,
     );
@@ -266,6 +381,8 @@ fn order_cases() {
         100,
         2,
         &mut two,
+        &mut calls,
+        &mut ways,
         &mut hints,
         &mut log,
     );

@@ -2,6 +2,7 @@
 --
 --   Filled, filled-start, filled-step, filled-done     the loop that fills a buffer with a list of its length
 --   copied-more       a copy of i bytes, and one more
+--   part, getD-part, length-part, part-done     the first i elements of one list, and the others of another one
 --
 -- Assumes nothing.
 use mathlib.Core.Path.{_≡_, refl, sym, _∙_, ap}
@@ -47,3 +48,29 @@ copied-more from to i h k = rw (add-one i) (go from to i h k)
     go (x ∷ xs) [] i h k = absurd (omega arith)
     go (x ∷ xs) (y ∷ ys) zero h k = refl
     go (x ∷ xs) (y ∷ ys) (suc i) h k = ap (λ (l : List ℕ). x ∷ l) (go xs ys i (omega arith) (omega arith))
+
+-- ---- a buffer whose first i elements are those of another list
+
+abbrev pub part : List ℕ → List ℕ → ℕ → List ℕ
+part target before i = take i target ++ drop i before
+
+pub getD-part : (target before : List ℕ) (i : ℕ) → i < length target → i < length before → getD (part target before i) i 0 ≡ getD before i 0
+getD-part [] before i h k = absurd (omega arith)
+getD-part (x ∷ xs) [] i h k = absurd (omega arith)
+getD-part (x ∷ xs) (y ∷ ys) zero h k = refl
+getD-part (x ∷ xs) (y ∷ ys) (suc i) h k = getD-part xs ys i (omega arith) (omega arith)
+
+pub length-part : (target before : List ℕ) (i : ℕ) → length target ≡ length before → length (part target before i) ≡ length before
+length-part target before zero e = refl
+length-part [] [] (suc i) e = refl
+length-part [] (y ∷ ys) (suc i) e = absurd (omega arith)
+length-part (x ∷ xs) [] (suc i) e = absurd (omega arith)
+length-part (x ∷ xs) (y ∷ ys) (suc i) e = ap suc (length-part xs ys i (omega arith))
+
+pub part-done : (target before : List ℕ) (i : ℕ) → length target ≡ length before → length before ≤ i → part target before i ≡ target
+part-done [] [] zero e h = refl
+part-done [] [] (suc i) e h = refl
+part-done [] (y ∷ ys) i e h = absurd (omega arith)
+part-done (x ∷ xs) [] i e h = absurd (omega arith)
+part-done (x ∷ xs) (y ∷ ys) zero e h = absurd (omega arith)
+part-done (x ∷ xs) (y ∷ ys) (suc i) e h = ap (λ (l : List ℕ). x ∷ l) (part-done xs ys i (omega arith) (omega arith))

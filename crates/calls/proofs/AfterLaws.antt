@@ -103,6 +103,7 @@ withRow p o chunk spent =
     record {
       first = p .first;
       statuses = p .statuses;
+      records = p .records;
       tries = spent;
       rows = p .rows ++ (rowAfter p o chunk 0 0 spent ∷ []);
       models = p .models;

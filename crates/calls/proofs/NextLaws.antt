@@ -2,6 +2,7 @@
 --
 --   call-is           the call that code makes is that of rules/specs/Run
 --   call-up           a call spends no less than was spent
+--   suc-pred          a number that is not 0
 --   CallMade          the call as code has made it
 --   on-model, on-none, on-stopped     what comes of it, by what it ended with
 --
@@ -43,7 +44,7 @@ call-up es first status chunk meter w = omega (
   callOn-tries (meter .budget) (chunkClauses es first status chunk) (forcedValues status) (meter .spent) .up,
 )
 
-suc-pred : (m : ℕ) → 1 ≤ m → m ≡ suc (pred m)
+pub suc-pred : (m : ℕ) → 1 ≤ m → m ≡ suc (pred m)
 suc-pred zero h = absurd (omega arith)
 suc-pred (suc m) h = refl
 

@@ -1,2 +1,3 @@
 pub mod After
 pub mod Next
+pub mod Records

@@ -11,9 +11,11 @@ use rules::RunAnswer;
 use search::call::CallEnd;
 use search::call::go_on;
 use search::meter::Meter;
+use steps::records::put_records;
 ghost use mathlib.Core.Path.{_≡_};
 ghost use Prim.Native.Nat.{min};
-ghost use Rattle.calls.specs.Next.{ChunkOver, ChunkCalled, CallDue, CalledFrom, CallsOver, EndsFrom};
+ghost use Rattle.calls.specs.Next.{ChunkOver, ChunkCalled, CallDue, CalledFrom};
+ghost use Rattle.calls.specs.Records.{RunOver, RunEnds};
 
 // How many tries the run may take, and how many candidates a call.
 pub struct Limits {
@@ -30,8 +32,8 @@ fn lesser(a: u32, b: u32) -> u32
 
 // A call from the forced values, with the constraint of a chunk as the clause after the last one.
 // Rules out: a call on the formula alone; the constraint of the chunk before.
-// Required of: next_call, by CallDue.
-fn chunk_call(
+// Required of: next_call, by CallDue; witness::again::call_again, for a call that is made again.
+pub fn chunk_call(
     entries: &[i32],
     starts: &[u16],
     first: &[u8],
@@ -102,8 +104,8 @@ fn next_call(
     }
 }
 
-// While candidates remain, one call after the other; then what the run returns. The values are the calls' to write: nothing is said
-// of what the last one left there.
+// While candidates remain, one call after the other, each followed by the records of what it settled; then what the run returns. The
+// values are the calls' to write: nothing is said of what the last one left there.
 // Rules out: one call too few; going on after a stop.
 // Required of: backbone::first::settle, behind the first model.
 pub fn run_calls(
@@ -111,20 +113,23 @@ pub fn run_calls(
     starts: &[u16],
     first: &[u8],
     status: &mut [u8],
+    calls: &mut [u32],
+    ways: &mut [u8],
     log: &mut [u32],
     values: &mut [u8],
     t: Tally,
     limits: Limits,
 ) -> Report
-    requires { ⌜ CallsOver (now entries) (now starts) (now first) (now status) (now log) (now values) t limits ⌝ }
-    ensures { λ r. ⌜ EndsFrom (now (entries .entry)) limits t (now (first .entry)) (now (status .entry)) (now (log .entry))
-        r (now (status .exit)) (now (log .exit)) ⌝ }
+    requires { ⌜ RunOver (now entries) (now starts) (now first) (now status) (now calls) (now ways) (now log) (now values) t limits ⌝ }
+    ensures { λ r. ⌜ RunEnds (now (entries .entry)) limits t (now (first .entry)) (now (status .entry)) (now (calls .entry)) (now (ways .entry))
+        (now (log .entry)) r (now (status .exit)) (now (calls .exit)) (now (ways .exit)) (now (log .exit)) ⌝ }
 {
     let mut tally = t;
     while 0 < tally.candidates {
         match next_call(entries, starts, first, status, log, values, tally, limits) {
             Next::GoesOn(next) => {
                 tally = next;
+                put_records(first, values, status, calls, ways, tally.calls);
             }
             Next::Ends(report) => {
                 return report;

@@ -1,7 +1,7 @@
 -- From the promises of the crates below to those in numbers.
 --   refused-place        the place of a refused run
---   reads-fit runs-fit sets-up-fit   places and counts fit the fields of the structs
---   reads-in runs-in sets-up-in      what is returned in numbers, with the buffers as they were left
+--   reads-fit runs-fit sets-up-fit witnesses-fit   places and counts fit the fields of the structs
+--   reads-in runs-in sets-up-in witnesses-in       what is returned in numbers, with the buffers as they were left
 -- Assumes nothing.
 use mathlib.Core.Path.{_≡_, refl, _∙_, ap}
 use mathlib.Core.Logic.{_⊎_, inl, inr}
@@ -20,6 +20,9 @@ use Rattle.rules.specs.Reading.{Judged, accepted, refused, judge, returned, rea
 use Rattle.rules.specs.Answer.{Given, Buffers, refusalOf, taskOf, reportIf, reportOf, Runs}
 use Rattle.rules.specs.RunRefusals.{RunRefuses, bad-limits, short-buffer, list-long, not-ended, zero-over, entry-over-vars}
 use Rattle.rules.specs.RunRefusals.{many-held, bad-literal}
+use Rattle.rules.specs.Witness.{Asked, askedTask, askedRefusal, askedReport, Witnesses}
+use Rattle.rules.proofs.ListLaws.{apart}
+use Rattle.rules.proofs.WitnessTheorems.{asked-refused, asked-answered}
 use Rattle.rules.proofs.RefusalLaws.{refusal-sound}
 use Rattle.rules.proofs.PlaceLaws.{refuses-place}
 use Rattle.rules.proofs.PrintedLaws.{table-formed}
@@ -30,7 +33,7 @@ use Rattle.rules.specs.Setup.{SetupGiven, setupRefusal, setupCall, setupReport,
 use Rattle.rules.proofs.SetupTheorems.{setup-refused}
 use Rattle.igbezolum.specs.declared.IgbReading.{IgbReading}
 use Rattle.igbezolum.specs.declared.IgbReport.{IgbReport}
-use Rattle.igbezolum.specs.Linked.{readingNumbers, reportNumbers, ReadsIn, RunsIn, SetsUpIn, ReadingFits}
+use Rattle.igbezolum.specs.Linked.{readingNumbers, reportNumbers, ReadsIn, RunsIn, SetsUpIn, WitnessesIn, ReadingFits}
 
 -- ---- a reading
 
@@ -94,6 +97,29 @@ sets-up-fit {g = g} {r = r} d = go (setupRefusal g) refl (setup-report-is d)
     go (some a) q e = rw e (refused-place (setup-refused g a .0 q))
     go none q e = rw e (ended-call (setupCall g))
 
+-- ---- a witness
+
+witness-report : {a : Asked} {r : Report} {first witness : List ℤ} → Witnesses a r first witness → r ≡ reportIf (askedRefusal a) (askedTask a)
+unfolding askedReport
+witness-report d = d .result-is
+
+pub witnesses-fit : {a : Asked} {r : Report} {first witness : List ℤ} → Witnesses a r first witness → runPlace (r .answer) ≤ maxEntries
+witnesses-fit {a = a} {r = r} d = go (askedRefusal a) refl (witness-report d)
+  where
+    place : (b : Refusal) → askedRefusal a ≡ some b → refusalPlace b ≤ maxEntries
+    place Refusal.ShortBuffer q = omega arith
+    place Refusal.BadLimits q = omega arith
+    place (Refusal.BadList at) q = refused-place (asked-refused a (Refusal.BadList at) (λ z. apart cc) .0 q)
+    place (Refusal.EntryOverVars at) q = refused-place (asked-refused a (Refusal.EntryOverVars at) (λ z. apart cc) .0 q)
+    place (Refusal.BadLiteral at) q = refused-place (asked-refused a (Refusal.BadLiteral at) (λ z. apart cc) .0 q)
+    place Refusal.NotFree q = omega arith
+    place Refusal.ManyHeld q = omega arith
+
+    go : (o : Option Refusal) → askedRefusal a ≡ o → r ≡ reportIf o (askedTask a) → runPlace (r .answer) ≤ maxEntries
+    go (some b) q e = rw e (place b q)
+    go none q e =
+        rw e (ended-place (run-answer (askedTask a) (asked-answered a .0 q .0 .listed .lent .in-limits .limit-some)))
+
 -- ---- the promise in numbers follows from the promise of the crate below
 
 pub reads-in : {text : List ℕ} {before after : List ℤ} {r : Reading} {n : IgbReading}
@@ -102,7 +128,18 @@ reads-in d e = record { result-is = e ∙ ap readingNumbers (d .result-is); afte
 
 pub runs-in : {g : Given} {r : Report} {after : Buffers} {n : IgbReport} → Runs g r after → n ≡ reportNumbers r → RunsIn g n after
 runs-in d e =
-    record { result-is = e ∙ ap reportNumbers (d .result-is); status-is = d .status-is; hints-are = d .hints-are; log-is = d .log-is }
+    record {
+      result-is = e ∙ ap reportNumbers (d .result-is);
+      status-is = d .status-is;
+      calls-are = d .calls-are;
+      ways-are = d .ways-are;
+      hints-are = d .hints-are;
+      log-is = d .log-is;
+    }
 
 pub sets-up-in : {g : SetupGiven} {r : Report} {after : List ℕ} {n : IgbReport} → SetsUp g r after → n ≡ reportNumbers r → SetsUpIn g n after
 sets-up-in d e = record { result-is = e ∙ ap reportNumbers (d .result-is); values-are = d .values-are }
+
+pub witnesses-in : {a : Asked} {r : Report} {first witness : List ℤ} {n : IgbReport} → Witnesses a r first witness → n ≡ reportNumbers r
+    → WitnessesIn a n first witness
+witnesses-in d e = record { result-is = e ∙ ap reportNumbers (d .result-is); first-is = d .first-is; witness-is = d .witness-is }

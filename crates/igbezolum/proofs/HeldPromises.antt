@@ -98,6 +98,7 @@ refusal-number Refusal.BadLimits = none-of 10 (omega arith) (omega arith) (omega
 refusal-number (Refusal.BadList at) = none-of 11 (omega arith) (omega arith) (omega arith)
 refusal-number (Refusal.EntryOverVars at) = none-of 12 (omega arith) (omega arith) (omega arith)
 refusal-number (Refusal.BadLiteral at) = none-of 13 (omega arith) (omega arith) (omega arith)
+refusal-number Refusal.NotFree = none-of 14 (omega arith) (omega arith) (omega arith)
 refusal-number Refusal.ManyHeld = none-of 15 (omega arith) (omega arith) (omega arith)
 
 module _ {g : SetupGiven} {n : IgbReport} {after : List ℕ} (w : SetsUpIn g n after) where

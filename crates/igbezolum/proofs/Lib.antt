@@ -3,3 +3,4 @@ pub mod Promises
 pub mod HeldPromises
 pub mod WhyFit
 pub mod WhyPromises
+pub mod WitnessPromises

@@ -8,10 +8,10 @@
 --   read-exactly                     answer 0 exactly if the text is one of the grammar and there is room
 --   read-card card-runs              a text that is accepted: its clauses stand in the buffer, and their run is not refused for them
 --   answered refused-exactly         igb_run: 0, 20 or 21 exactly if no rule refuses; each refusal number and place exactly
---   nothing-written rest-stays       a refused run writes nothing; what stands behind table, hints and rows always stays
+--   nothing-written rest-stays       a refused run writes nothing; what stands behind table, records, hints and rows always stays
 --   settled-forced settled-free settled-none-open settled-same     after 0
 --   no-model-exactly no-model-table  20
---   forced-sound free-witness forced-held hints-none calls-most tries-most counted logged     after 0, 20 and 21 alike
+--   forced-sound free-witness free-pair forced-held hints-none calls-most tries-most counted logged recorded     after 0, 20 and 21 alike
 --
 -- Assumes nothing.
 use mathlib.Core.Path.{_≡_, refl, sym, _∙_, ap}
@@ -44,6 +44,8 @@ use Rattle.rules.specs.Held.{withHeld, Holdable}
 use Rattle.rules.specs.Answer.{Given, Buffers, given, logLength, taskOf, reportOf, logOfRows, isFree, isForced, Runs}
 use Rattle.rules.specs.RunRefusals.{Lent, Accepted, RunRefuses}
 use Rattle.rules.specs.Log.{LogOf}
+use Rattle.rules.specs.Recorded.{RecordsIn}
+use Rattle.rules.specs.Witness.{PairAt}
 use Rattle.rules.proofs.ListLaws.{both, never}
 use Rattle.rules.proofs.Theorems as theorems
 use Rattle.rules.proofs.ReadingTheorems.{read-accepts, read-accepted}
@@ -93,7 +95,8 @@ refusalOfNumber n at =
     (cond (eqb n 11) (Refusal.BadList at)
     (cond (eqb n 12) (Refusal.EntryOverVars at)
     (cond (eqb n 13) (Refusal.BadLiteral at)
-    Refusal.ManyHeld))))
+    (cond (eqb n 14) Refusal.NotFree
+    Refusal.ManyHeld)))))
 
 abbrev pub runAnswer : ℕ → ℕ → RunAnswer
 runAnswer n at =
@@ -111,6 +114,7 @@ runAnswer-numbers (RunAnswer.Refused Refusal.BadLimits) = refl
 runAnswer-numbers (RunAnswer.Refused (Refusal.BadList at)) = refl
 runAnswer-numbers (RunAnswer.Refused (Refusal.EntryOverVars at)) = refl
 runAnswer-numbers (RunAnswer.Refused (Refusal.BadLiteral at)) = refl
+runAnswer-numbers (RunAnswer.Refused Refusal.NotFree) = refl
 runAnswer-numbers (RunAnswer.Refused Refusal.ManyHeld) = refl
 
 -- ---- and so the promise below
@@ -151,6 +155,8 @@ runs-back {g = g} d =
     record {
       result-is = ap reportFrom (d .result-is) ∙ report-back (reportOf g);
       status-is = d .status-is;
+      calls-are = d .calls-are;
+      ways-are = d .ways-are;
       hints-are = d .hints-are;
       log-is = d .log-is;
     }
@@ -302,15 +308,26 @@ module _ {g : Given} {n : IgbReport} {after : Buffers} (w : RunsIn g n after) wh
 
   -- a refused run returns zero counts and writes nothing
   pub nothing-written : (Answered n → ⊥) → (n .calls ≡ 0) × (n .tries ≡ 0) × (n .forced ≡ 0) × (n .free ≡ 0)
-      × (after .status ≡ g .status) × (after .hints ≡ g .hints) × (after .log ≡ g .log)
+      × (after .status ≡ g .status) × (after .calls ≡ g .calls) × (after .ways ≡ g .ways) × (after .hints ≡ g .hints) × (after .log ≡ g .log)
   nothing-written ne =
       let (a, h) = refused-by ne in
-      let (r, s, m, l) = run.nothing-written below a h in
-      (ap (λ (q : Report). q .calls) r, ap (λ (q : Report). q .tries) r, ap (λ (q : Report). q .forced) r, ap (λ (q : Report). q .free) r, s, m, l)
+      let (r, s, c, y, m, l) = run.nothing-written below a h in (
+        ap (λ (q : Report). q .calls) r,
+        ap (λ (q : Report). q .tries) r,
+        ap (λ (q : Report). q .forced) r,
+        ap (λ (q : Report). q .free) r,
+        s,
+        c,
+        y,
+        m,
+        l,
+      )
 
-  -- what stands behind the table, the hints and the rows stays, whatever is answered
+  -- what stands behind the table, the records, the hints and the rows stays, whatever is answered
   abbrev RestStays : Type 0
   RestStays = (drop (g .vars) (after .status) ≡ drop (g .vars) (g .status))
+      × (drop (g .vars) (after .calls) ≡ drop (g .vars) (g .calls))
+      × (drop (g .vars) (after .ways) ≡ drop (g .vars) (g .ways))
       × (drop (g .vars) (after .hints) ≡ drop (g .vars) (g .hints))
       × (drop (logLength (g .vars)) (after .log) ≡ drop (logLength (g .vars)) (g .log))
 
@@ -321,8 +338,8 @@ module _ {g : Given} {n : IgbReport} {after : Buffers} (w : RunsIn g n after) wh
       go (inl t) = run.rest-stays below (run.answered below .0 t)
       go (inr f) =
           let (a, h) = refused-by (λ x. never (answered-so x) f) in
-          let (r, s, m, l) = run.nothing-written below a h in
-          (ap (drop (g .vars)) s, ap (drop (g .vars)) m, ap (drop (logLength (g .vars))) l)
+          let (r, s, c, y, m, l) = run.nothing-written below a h in
+          (ap (drop (g .vars)) s, ap (drop (g .vars)) c, ap (drop (g .vars)) y, ap (drop (g .vars)) m, ap (drop (logLength (g .vars))) l)
 
   -- ---- a settled run
 
@@ -396,6 +413,18 @@ module _ {g : Given} {n : IgbReport} {after : Buffers} (w : RunsIn g n after) wh
         × (length rows ≡ n .calls)
         × LogOf rows (n .free) (n .forced) (n .tries)
     logged = run.logged below (answered .0 a)
+
+    -- calls and ways are those of records with these statuses: 0 exactly while a variable is open, and each row's two drops, and its chunk if
+    -- it says 2, are the counts of the records with its call and way
+    pub recorded :
+        RecordsIn (g .vars) (n .calls) (take (g .vars) (after .status)) (take (g .vars) (after .calls)) (take (g .vars) (after .ways))
+        (take (logLength (g .vars)) (after .log))
+    recorded = run.recorded below (answered .0 a)
+
+    -- the first model and the witness of a variable marked free
+    pub free-pair : (i : ℕ) → i < g .vars → statusAt (take (g .vars) (after .status)) i ≡ 1
+        → PairAt (g .vars) (withHeld (clauses (g .entries)) (g .held)) (Rattle.rules.specs.Run.run (taskOf g) .progress) i
+    free-pair = run.free-pair below (answered .0 a)
 
 -- budget and chunk limit never change a settled status
 pub settled-same : {es : List ℤ} {vars : ℕ} {held : List ℤ} (budget limit budget′ limit′ : ℕ) {lent lent′ after after′ : Buffers} {n n′ : IgbReport}

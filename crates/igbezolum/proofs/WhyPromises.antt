@@ -51,6 +51,7 @@ whyAnswer-numbers (WhyAnswer.Refused Refusal.BadLimits) = refl
 whyAnswer-numbers (WhyAnswer.Refused (Refusal.BadList at)) = refl
 whyAnswer-numbers (WhyAnswer.Refused (Refusal.EntryOverVars at)) = refl
 whyAnswer-numbers (WhyAnswer.Refused (Refusal.BadLiteral at)) = refl
+whyAnswer-numbers (WhyAnswer.Refused Refusal.NotFree) = refl
 whyAnswer-numbers (WhyAnswer.Refused Refusal.ManyHeld) = refl
 
 abbrev pub whyReportFrom : IgbWhyReport → WhyReport

@@ -8,8 +8,9 @@ use Rattle.rules.specs.declared.Reading.{Reading}
 use Rattle.rules.specs.declared.Report.{Report}
 use Rattle.rules.specs.Numbers.{maxText, maxEntries, readNumber, readPlace, runNumber, runPlace}
 use Rattle.rules.specs.Reading.{readingOf, entriesAfter}
-use Rattle.rules.specs.Answer.{Given, Buffers, reportOf, statusAfter, hintsAfter, logAfter}
+use Rattle.rules.specs.Answer.{Given, Buffers, reportOf, statusAfter, callsAfter, waysAfter, hintsAfter, logAfter}
 use Rattle.rules.specs.Setup.{SetupGiven, setupReportOf, setupValuesAfter}
+use Rattle.rules.specs.Witness.{Asked, askedReport, firstAfter, witnessAfter}
 use Rattle.igbezolum.specs.declared.IgbReading.{IgbReading}
 use Rattle.igbezolum.specs.declared.IgbReport.{IgbReport}
 
@@ -43,6 +44,8 @@ pub record ReadsIn (text : List ℕ) (before : List ℤ) (result : IgbReading) (
 pub record RunsIn (g : Given) (result : IgbReport) (after : Buffers) : Type 0 where
   pub result-is : result ≡ reportNumbers (reportOf g)
   pub status-is : after .status ≡ statusAfter g
+  pub calls-are : after .calls ≡ callsAfter g
+  pub ways-are : after .ways ≡ waysAfter g
   pub hints-are : after .hints ≡ hintsAfter g
   pub log-is : after .log ≡ logAfter g
 
@@ -50,6 +53,12 @@ pub record RunsIn (g : Given) (result : IgbReport) (after : Buffers) : Type 0 wh
 pub record SetsUpIn (g : SetupGiven) (result : IgbReport) (after : List ℕ) : Type 0 where
   pub result-is : result ≡ reportNumbers (setupReportOf g)
   pub values-are : after ≡ setupValuesAfter g
+
+-- what a witness promises, in numbers
+pub record WitnessesIn (a : Asked) (result : IgbReport) (first witness : List ℤ) : Type 0 where
+  pub result-is : result ≡ reportNumbers (askedReport a)
+  pub first-is : first ≡ firstAfter a
+  pub witness-is : witness ≡ witnessAfter a
 
 -- place and count of every reading are within these
 

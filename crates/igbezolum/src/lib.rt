@@ -1,5 +1,7 @@
-// The functions that C and Rust link (libigbezolum.a): the reader, the run, one valid setup, why a literal is forced and the printed table, each
-// thin over its crate. They answer in the numbers of docs/RULES.md, "What comes back"; include/igbezolum.h is the page for their callers.
+// The functions that C and Rust link (libigbezolum.a): the reader, the run, one valid setup, why a literal is forced, two models that differ on
+// a variable, and the printed table, each thin over its crate. They answer in the numbers of docs/RULES.md, "What comes back";
+// include/igbezolum.h is the page for their callers.
+pub mod pair;
 pub mod why;
 
 ghost use mathlib.Core.Path.{_≡_};
@@ -74,7 +76,7 @@ pub extern "C" fn igb_read(text: &[u8], entries: &mut [i32]) -> IgbReading
     reading_numbers(reading)
 }
 
-// The run over an entry list with literals held, into the statuses, the hints and the log that are lent.
+// The run over an entry list with literals held, into the statuses, the calls, the ways, the hints and the log that are lent.
 // Rules out: the free counted as forced; a run under a budget that was not given.
 #[no_mangle]
 pub extern "C" fn igb_run(
@@ -84,14 +86,27 @@ pub extern "C" fn igb_run(
     budget: u32,
     chunk_limit: u32,
     status: &mut [u8],
+    calls: &mut [u32],
+    ways: &mut [u8],
     hints: &mut [u32],
     log: &mut [u32],
 ) -> IgbReport
     ensures { λ r. ⌜ RunsIn (given (now (entries .entry)) vars (now (held .entry)) budget «chunk_limit»
-        (buffers (now (status .entry)) (now (hints .entry)) (now (log .entry))))
-        r (buffers (now (status .exit)) (now (hints .exit)) (now (log .exit))) ⌝ }
+        (buffers (now (status .entry)) (now (calls .entry)) (now (ways .entry)) (now (hints .entry)) (now (log .entry))))
+        r (buffers (now (status .exit)) (now (calls .exit)) (now (ways .exit)) (now (hints .exit)) (now (log .exit))) ⌝ }
 {
-    let report = backbone::run(entries, vars, held, budget, chunk_limit, status, hints, log);
+    let report = backbone::run(
+        entries,
+        vars,
+        held,
+        budget,
+        chunk_limit,
+        status,
+        calls,
+        ways,
+        hints,
+        log,
+    );
     report_numbers(report)
 }
 

@@ -55,6 +55,7 @@ refusal-number Refusal.BadLimits = (omega arith, omega arith)
 refusal-number (Refusal.BadList at) = (omega arith, omega arith)
 refusal-number (Refusal.EntryOverVars at) = (omega arith, omega arith)
 refusal-number (Refusal.BadLiteral at) = (omega arith, omega arith)
+refusal-number Refusal.NotFree = (omega arith, omega arith)
 refusal-number Refusal.ManyHeld = (omega arith, omega arith)
 
 pub table-refusal : (a : RunAnswer) (vars : ℕ) (r : Report) (ss hs : List ℕ) → isRefusal (runNumber a) ≡ true
@@ -136,7 +137,7 @@ hints-len g = go (refusalOf g) refl
   where
     go : (o : Option Refusal) → refusalOf g ≡ o → length (hintsAfter g) ≡ length (g .hints)
     go none e = length-hintsAfter g (run-accepted g .0 e)
-    go (some a) e = ap length (refused-writes-nothing g a (run-refused g a .0 e) .2)
+    go (some a) e = ap length (refused-writes-nothing g a (run-refused g a .0 e) .4)
 
 counted-le : (g : Given) → reportOf g .forced + reportOf g .free ≤ g .vars
 counted-le g = go (refusalOf g) refl
@@ -162,6 +163,8 @@ module _ {vars : ℕ} {es held : List ℤ} {room : Buffers} (w : Formed (listGiv
           lent = record {
             in-limits = record { vars-fit = l .lent .in-limits .vars-fit; limit-some = omega arith; limit-fits = omega arith };
             status-fits = omega (arith, z .status-len);
+            calls-fit = omega (arith, z .calls-len);
+            ways-fit = omega (arith, z .ways-len);
             hints-fit = omega (arith, z .hints-len);
             log-fits = omega (arith, z .log-len);
           };

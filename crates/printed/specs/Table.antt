@@ -12,7 +12,7 @@ use Rattle.rules.specs.declared.Report.{Report}
 use Rattle.rules.specs.Numbers.{maxVars}
 use Rattle.rules.specs.Text.{Sizes}
 use Rattle.rules.specs.Reading.{accepted, entriesAfter}
-use Rattle.rules.specs.Answer.{Given, Buffers, logLength, statusAfter, hintsAfter, logAfter}
+use Rattle.rules.specs.Answer.{Given, Buffers, logLength, statusAfter, callsAfter, waysAfter, hintsAfter, logAfter}
 use Rattle.rules.specs.RunRefusals.{Formed}
 use Rattle.rules.specs.Printed.{tableOfRun, tableGiven, tableOfJudged, tableOf}
 use Rattle.buffers.specs.Put.{Room, Put}
@@ -40,6 +40,8 @@ pub record ListReady (vars : ℕ) (es held : List ℤ) (out : List ℕ) : Type 0
 -- buffers of just the size
 pub record Sized (vars : ℕ) (lent : Buffers) : Type 0 where
   pub status-len : length (lent .status) ≡ vars
+  pub calls-len : length (lent .calls) ≡ vars
+  pub ways-len : length (lent .ways) ≡ vars
   pub hints-len : length (lent .hints) ≡ vars
   pub log-len : length (lent .log) ≡ logLength vars
 
@@ -58,6 +60,8 @@ pub record TableReady (vars : ℕ) (r : Report) (ss hs out : List ℕ) : Type 0 
 pub record RunPut (g : Given) (before : List ℕ) (next : ℕ) (left : Buffers) (after : List ℕ) : Type 0 where
   pub put : Put 0 (tableOfList (g .vars) (g .entries) (g .held)) before next after
   pub status-is : left .status ≡ statusAfter g
+  pub calls-are : left .calls ≡ callsAfter g
+  pub ways-are : left .ways ≡ waysAfter g
   pub hints-are : left .hints ≡ hintsAfter g
   pub log-is : left .log ≡ logAfter g
 

@@ -59,13 +59,15 @@ fn put_run(
     vars: u32,
     held: &[i32],
     status: &mut [u8],
+    calls: &mut [u32],
+    ways: &mut [u8],
     hints: &mut [u32],
     log: &mut [u32],
 ) -> usize
-    requires { ⌜ ListReady vars (now entries) (now held) (now out) × Sized vars (buffers (now status) (now hints) (now log)) ⌝ }
+    requires { ⌜ ListReady vars (now entries) (now held) (now out) × Sized vars (buffers (now status) (now calls) (now ways) (now hints) (now log)) ⌝ }
     ensures { λ r. ⌜ RunPut (given (now (entries .entry)) vars (now (held .entry)) tableBudget tableChunk
-        (buffers (now (status .entry)) (now (hints .entry)) (now (log .entry))))
-        (now (out .entry)) r (buffers (now (status .exit)) (now (hints .exit)) (now (log .exit))) (now (out .exit)) ⌝ }
+        (buffers (now (status .entry)) (now (calls .entry)) (now (ways .entry)) (now (hints .entry)) (now (log .entry)))) (now (out .entry))
+        r (buffers (now (status .exit)) (now (calls .exit)) (now (ways .exit)) (now (hints .exit)) (now (log .exit))) (now (out .exit)) ⌝ }
 {
     let report = backbone::run(
         entries,
@@ -74,6 +76,8 @@ fn put_run(
         TABLE_BUDGET,
         TABLE_CHUNK,
         status,
+        calls,
+        ways,
         hints,
         log,
     );
@@ -89,6 +93,8 @@ fn put_list(out: &mut [u8], entries: &[i32], vars: u32, held: &[i32]) -> usize
 {
     let n = vars as usize;
     let mut status = [0u8; rules::MAX_VARS as usize];
+    let mut calls = [0u32; rules::MAX_VARS as usize];
+    let mut ways = [0u8; rules::MAX_VARS as usize];
     let mut hints = [0u32; rules::MAX_VARS as usize];
     let mut log = [0u32; rules::MAX_LOG];
     put_run(
@@ -97,6 +103,8 @@ fn put_list(out: &mut [u8], entries: &[i32], vars: u32, held: &[i32]) -> usize
         vars,
         held,
         &mut status[..n],
+        &mut calls[..n],
+        &mut ways[..n],
         &mut hints[..n],
         &mut log[..6 * (n + 1)],
     )

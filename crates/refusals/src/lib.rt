@@ -111,9 +111,16 @@ pub fn out_of_limits(vars: u32, limit: u32) -> bool
 
 // Whether a buffer of a run is too short, by their lengths.
 // Rules out: buffers of just the size called short; a log that lacks one number called long enough.
-pub fn too_short(vars: u32, status: usize, hints: usize, log: usize) -> bool
-    ensures { λ r. ⌜ r ≡ tooShort vars status hints log ⌝ }
+pub fn too_short(
+    vars: u32,
+    status: usize,
+    calls: usize,
+    ways: usize,
+    hints: usize,
+    log: usize,
+) -> bool
+    ensures { λ r. ⌜ r ≡ tooShort vars status calls ways hints log ⌝ }
 {
     let n = vars as usize;
-    status < n || (hints < n || log < 6 * (n + 1))
+    status < n || (calls < n || (ways < n || (hints < n || log < 6 * (n + 1))))
 }

@@ -43,6 +43,8 @@ givenOf c =
       budget = c .budget;
       limit = 2;
       status = replicate (c .vars) 7;
+      calls = replicate (c .vars) 7;
+      ways = replicate (c .vars) 7;
       hints = replicate (c .vars) 7;
       log = replicate (logLength (c .vars)) 7;
     }

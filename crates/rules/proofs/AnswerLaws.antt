@@ -31,7 +31,7 @@ use Rattle.rules.specs.Meaning.{varOf, LitUpTo}
 use Rattle.rules.specs.Reading.{isZero}
 use Rattle.rules.specs.Held.{isNoLiteral, heldRules}
 use Rattle.rules.specs.Answer.{Given, logLength, isEnded, isAbove, listRules, outOfLimits, isShort, refusalOf}
-use Rattle.rules.specs.RunRefusals.{InLimits, Lent, TooShort, short-status, short-hints, short-log, Listed}
+use Rattle.rules.specs.RunRefusals.{InLimits, Lent, TooShort, short-status, short-calls, short-ways, short-hints, short-log, Listed}
 use Rattle.rules.proofs.ListLaws.{apart, le-or-lt, never, or-cases, or-left, or-right}
 
 -- ---- the element that passes and has n passing elements before it
@@ -163,6 +163,12 @@ module _ (g : Given) where
   few-statuses : Bool
   few-statuses = ltb (length (g .status)) (g .vars)
 
+  few-calls : Bool
+  few-calls = ltb (length (g .calls)) (g .vars)
+
+  few-ways : Bool
+  few-ways = ltb (length (g .ways)) (g .vars)
+
   few-hints : Bool
   few-hints = ltb (length (g .hints)) (g .vars)
 
@@ -170,38 +176,56 @@ module _ (g : Given) where
   few-rows = ltb (length (g .log)) (logLength (g .vars))
 
   pub room-sound : isShort g ≡ true → TooShort g
-  unfolding few-statuses few-hints few-rows
-  room-sound h = go (or-cases few-statuses (few-hints || few-rows) h)
+  unfolding few-statuses few-calls few-ways few-hints few-rows
+  room-sound h = go (or-cases few-statuses (few-calls || (few-ways || (few-hints || few-rows))) h)
     where
-      rest : (few-hints ≡ true) ⊎ (few-rows ≡ true) → TooShort g
-      rest (inl e) = short-hints (ltb-true _ _ e)
-      rest (inr e) = short-log (ltb-true _ _ e)
+      hints-on : (few-hints ≡ true) ⊎ (few-rows ≡ true) → TooShort g
+      hints-on (inl e) = short-hints (ltb-true _ _ e)
+      hints-on (inr e) = short-log (ltb-true _ _ e)
 
-      go : (few-statuses ≡ true) ⊎ ((few-hints || few-rows) ≡ true) → TooShort g
+      ways-on : (few-ways ≡ true) ⊎ ((few-hints || few-rows) ≡ true) → TooShort g
+      ways-on (inl e) = short-ways (ltb-true _ _ e)
+      ways-on (inr e) = hints-on (or-cases few-hints few-rows e)
+
+      calls-on : (few-calls ≡ true) ⊎ ((few-ways || (few-hints || few-rows)) ≡ true) → TooShort g
+      calls-on (inl e) = short-calls (ltb-true _ _ e)
+      calls-on (inr e) = ways-on (or-cases few-ways (few-hints || few-rows) e)
+
+      go : (few-statuses ≡ true) ⊎ ((few-calls || (few-ways || (few-hints || few-rows))) ≡ true) → TooShort g
       go (inl e) = short-status (ltb-true _ _ e)
-      go (inr e) = rest (or-cases few-hints few-rows e)
+      go (inr e) = calls-on (or-cases few-calls (few-ways || (few-hints || few-rows)) e)
 
   pub room-complete : TooShort g → isShort g ≡ true
+  unfolding few-statuses few-calls few-ways few-hints
   room-complete (short-status h) = rw (lt-ltb (length (g .status)) (g .vars) h)
-  room-complete (short-hints h) = rw (lt-ltb (length (g .hints)) (g .vars) h) (or-true (ltb (length (g .status)) (g .vars)))
+  room-complete (short-calls h) = rw (lt-ltb (length (g .calls)) (g .vars) h) (or-true few-statuses)
+  room-complete (short-ways h) = rw (lt-ltb (length (g .ways)) (g .vars) h, or-true few-calls) (or-true few-statuses)
+  room-complete (short-hints h) =
+      rw (lt-ltb (length (g .hints)) (g .vars) h, or-true few-ways, or-true few-calls) (or-true few-statuses)
   room-complete (short-log h) =
-      rw (lt-ltb (length (g .log)) (logLength (g .vars)) h, or-true (ltb (length (g .hints)) (g .vars))) (or-true (ltb (length (g .status)) (g .vars)))
+      rw (lt-ltb (length (g .log)) (logLength (g .vars)) h, or-true few-hints, or-true few-ways, or-true few-calls) (or-true few-statuses)
 
   pub room-false : InLimits g → isShort g ≡ false → Lent g
-  unfolding few-statuses few-hints few-rows
+  unfolding few-statuses few-calls few-ways few-hints few-rows
   room-false w h =
-      let rest = or-right few-statuses (few-hints || few-rows) h in
+      let behind-status = or-right few-statuses (few-calls || (few-ways || (few-hints || few-rows))) h in
+      let behind-calls = or-right few-calls (few-ways || (few-hints || few-rows)) behind-status in
+      let behind-ways = or-right few-ways (few-hints || few-rows) behind-calls in
       record {
         in-limits = w;
-        status-fits = ltb-false _ _ (or-left few-statuses (few-hints || few-rows) h);
-        hints-fit = ltb-false _ _ (or-left few-hints few-rows rest);
-        log-fits = ltb-false _ _ (or-right few-hints few-rows rest);
+        status-fits = ltb-false _ _ (or-left few-statuses (few-calls || (few-ways || (few-hints || few-rows))) h);
+        calls-fit = ltb-false _ _ (or-left few-calls (few-ways || (few-hints || few-rows)) behind-status);
+        ways-fit = ltb-false _ _ (or-left few-ways (few-hints || few-rows) behind-calls);
+        hints-fit = ltb-false _ _ (or-left few-hints few-rows behind-ways);
+        log-fits = ltb-false _ _ (or-right few-hints few-rows behind-ways);
       }
 
   pub room-of : Lent g → isShort g ≡ false
   room-of w =
       rw (
         le-ltb (length (g .status)) (g .vars) (w .status-fits),
+        le-ltb (length (g .calls)) (g .vars) (w .calls-fit),
+        le-ltb (length (g .ways)) (g .vars) (w .ways-fit),
         le-ltb (length (g .hints)) (g .vars) (w .hints-fit),
         le-ltb (length (g .log)) (logLength (g .vars)) (w .log-fits),
       )

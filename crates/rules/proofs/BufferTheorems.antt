@@ -4,9 +4,10 @@
 --   refused-writes-nothing       a refused run returns zero counts and leaves the buffers
 --   length-rows                  six numbers a row
 --   status-written               the first V bytes are the statuses, and the rest stays
+--   calls-written, ways-written     the first V calls and ways are those of the records, and the rest stays
 --   hints-written                the first V numbers are the hints, and the rest stays
 --   log-written                  rows for the calls begun, zeros for rows not used, and the rest stays
---   length-statusAfter, length-hintsAfter, length-logAfter     the buffers keep their lengths
+--   length-statusAfter, length-callsAfter, length-waysAfter, length-hintsAfter, length-logAfter     the buffers keep their lengths
 --   hintsAfter-le                no hint is above the number of clauses
 --
 -- Assumes nothing.
@@ -15,43 +16,50 @@ use mathlib.Core.List.{List, [], _∷_, _++_, map, append-nil}
 use mathlib.Core.Option.{none}
 use Prim.Native.Nat.{ℕ, _+_, _-_, _*_, _≤_}
 use native.Mathlib.Omega.{arith}
-use lib.ListN.{length, getD, take, drop, replicate, length-append, length-drop, length-replicate, drop-of-length-le}
+use lib.ListN.{length, getD, take, drop, replicate, length-append, length-drop, length-map, length-replicate, drop-of-length-le}
 use lib.Seq.{take-at, drop-at}
 use Rattle.rules.specs.declared.Refusal.{Refusal}
 use Rattle.rules.specs.declared.RunAnswer.{RunAnswer}
 use Rattle.rules.specs.declared.Report.{Report}
+use Rattle.rules.specs.declared.Record.{Record}
 use Rattle.rules.specs.Lists.{joined}
 use Rattle.rules.specs.Run.{Row, run}
+use Rattle.rules.specs.Numbers.{wayNumber}
+use Rattle.rules.specs.Records.{callsOf, waysOf}
 use Rattle.rules.specs.Hints.{hintsOf}
-use Rattle.rules.specs.Answer.{Given, Buffers, buffers, logLength, refusalOf, taskOf, reportOf, statusAfter, hintsAfter, rowNumbers, logOfRows}
+use Rattle.rules.specs.Answer.{Given, Buffers, buffers, logLength, refusalOf, taskOf, reportOf, statusAfter, callsAfter, waysAfter, hintsAfter}
+use Rattle.rules.specs.Answer.{rowNumbers, logOfRows}
 use Rattle.rules.specs.Answer.{logAfter, Runs}
 use Rattle.rules.specs.RunRefusals.{Accepted, RunRefuses}
 use Rattle.rules.proofs.RunTheorems.{run-statuses}
+use Rattle.rules.proofs.RecordLaws.{same-length}
+use Rattle.rules.proofs.RecordTheorems.{run-records}
 use Rattle.rules.proofs.CallTheorems.{run-calls}
 use Rattle.rules.proofs.HintLaws.{length-hintsOf, hintsOf-le}
 use Rattle.rules.proofs.RefusedRuns.{run-refused, run-accepted}
 
 -- ---- the contract
 
-pub runs-exists : (g : Given) → Runs g (reportOf g) (buffers (statusAfter g) (hintsAfter g) (logAfter g))
-runs-exists g = record { result-is = refl; status-is = refl; hints-are = refl; log-is = refl }
+pub runs-exists : (g : Given) → Runs g (reportOf g) (buffers (statusAfter g) (callsAfter g) (waysAfter g) (hintsAfter g) (logAfter g))
+runs-exists g = record { result-is = refl; status-is = refl; calls-are = refl; ways-are = refl; hints-are = refl; log-is = refl }
 
 pub runs-unique : {g : Given} {r r′ : Report} {b b′ : Buffers} → Runs g r b → Runs g r′ b′ → (r ≡ r′) × (b ≡ b′)
 runs-unique p q = (
   p .result-is ∙ sym (q .result-is),
-  same (p .status-is ∙ sym (q .status-is)) (p .hints-are ∙ sym (q .hints-are)) (p .log-is ∙ sym (q .log-is)),
+  same (p .status-is ∙ sym (q .status-is)) (p .calls-are ∙ sym (q .calls-are)) (p .ways-are ∙ sym (q .ways-are))
+      (p .hints-are ∙ sym (q .hints-are)) (p .log-is ∙ sym (q .log-is)),
 )
   where
-    same : {s s′ h h′ l l′ : List ℕ} → s ≡ s′ → h ≡ h′ → l ≡ l′ → buffers s h l ≡ buffers s′ h′ l′
-    same e f g = cc
+    same : {s s′ c c′ w w′ h h′ l l′ : List ℕ} → s ≡ s′ → c ≡ c′ → w ≡ w′ → h ≡ h′ → l ≡ l′ → buffers s c w h l ≡ buffers s′ c′ w′ h′ l′
+    same a b d e f = cc
 
 -- ---- refused
 
 pub refused-writes-nothing : (g : Given) (a : Refusal) → RunRefuses g a
     → (reportOf g ≡ record { answer = RunAnswer.Refused a; calls = 0; tries = 0; forced = 0; free = 0 })
-    × (statusAfter g ≡ g .status) × (hintsAfter g ≡ g .hints) × (logAfter g ≡ g .log)
-unfolding reportOf statusAfter hintsAfter logAfter
-refused-writes-nothing g a h = let e = run-refused g a .1 h in (rw e, rw e, rw e, rw e)
+    × (statusAfter g ≡ g .status) × (callsAfter g ≡ g .calls) × (waysAfter g ≡ g .ways) × (hintsAfter g ≡ g .hints) × (logAfter g ≡ g .log)
+unfolding reportOf statusAfter callsAfter waysAfter hintsAfter logAfter
+refused-writes-nothing g a h = let e = run-refused g a .1 h in (rw e, rw e, rw e, rw e, rw e, rw e)
 
 -- ---- accepted
 
@@ -96,6 +104,58 @@ module _ (g : Given) (w : Accepted g) where
         take-at statuses (drop (g .vars) (g .status)) (g .vars) length-statuses,
         drop-at statuses (drop (g .vars) (g .status)) (g .vars) length-statuses,
       )
+
+  -- calls and ways
+  records : List Record
+  records = run (taskOf g) .progress .records
+
+  length-records : length records ≡ g .vars
+  unfolding records statuses
+  length-records = same-length (run-records (taskOf g) limit) ∙ length-statuses
+
+  length-calls : length (callsOf records) ≡ g .vars
+  length-calls = length-map records (λ (r : Record). r .call) ∙ length-records
+
+  length-ways : length (waysOf records) ≡ g .vars
+  length-ways = length-map records (λ (r : Record). wayNumber (r .way)) ∙ length-records
+
+  callsAfter-is : callsAfter g ≡ callsOf records ++ drop (g .vars) (g .calls)
+  unfolding callsAfter records
+  callsAfter-is = rw accepted
+
+  waysAfter-is : waysAfter g ≡ waysOf records ++ drop (g .vars) (g .ways)
+  unfolding waysAfter records
+  waysAfter-is = rw accepted
+
+  pub calls-written : (take (g .vars) (callsAfter g) ≡ callsOf (run (taskOf g) .progress .records))
+      × (drop (g .vars) (callsAfter g) ≡ drop (g .vars) (g .calls))
+  unfolding records
+  calls-written =
+      rw callsAfter-is (
+        take-at (callsOf records) (drop (g .vars) (g .calls)) (g .vars) length-calls,
+        drop-at (callsOf records) (drop (g .vars) (g .calls)) (g .vars) length-calls,
+      )
+
+  pub ways-written : (take (g .vars) (waysAfter g) ≡ waysOf (run (taskOf g) .progress .records))
+      × (drop (g .vars) (waysAfter g) ≡ drop (g .vars) (g .ways))
+  unfolding records
+  ways-written =
+      rw waysAfter-is (
+        take-at (waysOf records) (drop (g .vars) (g .ways)) (g .vars) length-ways,
+        drop-at (waysOf records) (drop (g .vars) (g .ways)) (g .vars) length-ways,
+      )
+
+  pub length-callsAfter : length (callsAfter g) ≡ length (g .calls)
+  length-callsAfter =
+      rw callsAfter-is
+      (length-append (callsOf records) (drop (g .vars) (g .calls)) ∙
+      omega (arith, length-calls, length-drop (g .vars) (g .calls), w .listed .lent .calls-fit))
+
+  pub length-waysAfter : length (waysAfter g) ≡ length (g .ways)
+  length-waysAfter =
+      rw waysAfter-is
+      (length-append (waysOf records) (drop (g .vars) (g .ways)) ∙
+      omega (arith, length-ways, length-drop (g .vars) (g .ways), w .listed .lent .ways-fit))
 
   hintsAfter-is : hintsAfter g ≡ hintsOf (taskOf g) ++ drop (g .vars) (g .hints)
   unfolding hintsAfter

@@ -143,14 +143,16 @@ entry-order = (refl, refl, refl, refl)
 
 -- ---- runs
 
--- V, chunk limit, entries, held literals, the status bytes, hints and log numbers that are lent; then number and place, 0 and 0 where the
--- run begins
+-- V, chunk limit, entries, held literals, the status bytes, calls, ways, hints and log numbers that are lent; then number and place, 0 and 0
+-- where the run begins
 pub record RunEdge : Type 0 where
   pub vars : ℕ
   pub limit : ℕ
   pub entries : List ℤ
   pub held : List ℤ
   pub status : ℕ
+  pub calls : ℕ
+  pub ways : ℕ
   pub hints : ℕ
   pub log : ℕ
   pub number : ℕ
@@ -170,6 +172,8 @@ runPasses e =
       budget = 100;
       limit = e .limit;
       status = replicate (e .status) 7;
+      calls = replicate (e .calls) 7;
+      ways = replicate (e .ways) 7;
       hints = replicate (e .hints) 7;
       log = replicate (e .log) 7;
     }))
@@ -177,30 +181,34 @@ runPasses e =
     (e .place)
 
 -- the buffers
-abbrev lends : ℕ → ℕ → ℕ → ℕ → ℕ → List ℤ → ℕ → ℕ → RunEdge
-lends v l s h g es n p = record { vars = v; limit = l; entries = es; held = []; status = s; hints = h; log = g; number = n; place = p }
+abbrev lends : ℕ → ℕ → ℕ → ℕ → ℕ → ℕ → ℕ → List ℤ → ℕ → ℕ → RunEdge
+lends v l s c w h g es n p =
+    record { vars = v; limit = l; entries = es; held = []; status = s; calls = c; ways = w; hints = h; log = g; number = n; place = p }
 
 -- a list over one variable
 abbrev runs : List ℤ → ℕ → ℕ → RunEdge
-runs es n p = lends 1 2 1 1 12 es n p
+runs es n p = lends 1 2 1 1 1 1 12 es n p
 
 -- with literals held
 abbrev holds : List ℤ → List ℤ → ℕ → ℕ → RunEdge
-holds es held n p = record { vars = 1; limit = 2; entries = es; held = held; status = 1; hints = 1; log = 12; number = n; place = p }
+holds es held n p =
+    record { vars = 1; limit = 2; entries = es; held = held; status = 1; calls = 1; ways = 1; hints = 1; log = 12; number = n; place = p }
 
 abbrev pub runEdges : List RunEdge
 runEdges =
     -- 10: 257 variables, chunk limit 0 or 257
-    lends 256 256 256 256 1542 [] 0 0 ∷
-    lends 257 2 257 257 1548 [] 10 0 ∷
-    lends 0 1 0 0 6 [] 0 0 ∷
-    lends 0 0 0 0 6 [] 10 0 ∷
-    lends 0 257 0 0 6 [] 10 0 ∷
-    -- 1: a status byte, a hint or a log number too few
-    lends 256 2 255 256 1542 [] 1 0 ∷
-    lends 256 2 256 255 1542 [] 1 0 ∷
-    lends 256 2 256 256 1541 [] 1 0 ∷
-    lends 1 2 2 2 13 [] 0 0 ∷
+    lends 256 256 256 256 256 256 1542 [] 0 0 ∷
+    lends 257 2 257 257 257 257 1548 [] 10 0 ∷
+    lends 0 1 0 0 0 0 6 [] 0 0 ∷
+    lends 0 0 0 0 0 0 6 [] 10 0 ∷
+    lends 0 257 0 0 0 0 6 [] 10 0 ∷
+    -- 1: a status byte, a call, a way, a hint or a log number too few
+    lends 256 2 255 256 256 256 1542 [] 1 0 ∷
+    lends 256 2 256 255 256 256 1542 [] 1 0 ∷
+    lends 256 2 256 256 255 256 1542 [] 1 0 ∷
+    lends 256 2 256 256 256 255 1542 [] 1 0 ∷
+    lends 256 2 256 256 256 256 1541 [] 1 0 ∷
+    lends 1 2 2 2 2 2 13 [] 0 0 ∷
     -- 11: the 4,097th entry; no 0 at the end; the 1,025th zero
     runs (clause (replicate 4095 (pos 1))) 0 0 ∷
     runs (clause (replicate 4096 (pos 1))) 11 4096 ∷
@@ -214,14 +222,16 @@ runEdges =
     runs (unit (pos 1) ++ unit (pos 2) ++ unit (pos 3)) 12 2 ∷
     runs (clause (pos 1 ∷ neg 2 ∷ [])) 12 1 ∷
     runs (unit (neg 2147483648)) 12 0 ∷
-    lends 0 2 0 0 6 (unit (pos 1)) 12 0 ∷
-    lends 256 2 256 256 1542 (clause (pos 256 ∷ neg 256 ∷ neg 257 ∷ [])) 12 2 ∷
+    lends 0 2 0 0 0 0 6 (unit (pos 1)) 12 0 ∷
+    lends 256 2 256 256 256 256 1542 (clause (pos 256 ∷ neg 256 ∷ neg 257 ∷ [])) 12 2 ∷
     -- 10 before 1, 1 before 11, 11 before 12
-    lends 257 2 0 0 0 [] 10 0 ∷
-    lends 1 0 0 0 0 (pos 2 ∷ []) 10 0 ∷
-    lends 1 2 0 1 12 (pos 2 ∷ []) 1 0 ∷
-    lends 1 2 1 0 12 (pos 2 ∷ []) 1 0 ∷
-    lends 1 2 1 1 11 (unit (pos 2)) 1 0 ∷
+    lends 257 2 0 0 0 0 0 [] 10 0 ∷
+    lends 1 0 0 0 0 0 0 (pos 2 ∷ []) 10 0 ∷
+    lends 1 2 0 1 1 1 12 (pos 2 ∷ []) 1 0 ∷
+    lends 1 2 1 0 1 1 12 (pos 2 ∷ []) 1 0 ∷
+    lends 1 2 1 1 0 1 12 (pos 2 ∷ []) 1 0 ∷
+    lends 1 2 1 1 1 0 12 (pos 2 ∷ []) 1 0 ∷
+    lends 1 2 1 1 1 1 11 (unit (pos 2)) 1 0 ∷
     runs (pos 2 ∷ []) 11 1 ∷
     runs (unit (pos 2) ++ replicate 1024 (pos 0)) 11 1025 ∷
     -- 15: the 257th held literal; 13: 0, a variable above V and the least number of 32 bits, the first of them

@@ -4,7 +4,7 @@
 --   Known             what is known of the models, by the statuses
 --   first-model-is    the first model is one
 --   extends-forced    every model has the values forced so far
---   otherByte-valued  the other of the two bytes
+--   otherByte-valued  the other of the two bytes; flipped-model: a model with one variable flipped
 --   known-more        one more model found
 --   known-filtered    compare, then flip
 --   known-none        a chunk without a model

@@ -27,10 +27,13 @@ pub mod SearchOrder
 pub mod StatusLaws
 pub mod KnownLaws
 pub mod RunTrace
+pub mod RecordLaws
 pub mod RunNext
 pub mod LogLaws
 pub mod HintLaws
 pub mod RunTheorems
+pub mod RecordTheorems
+pub mod WitnessLaws
 pub mod CallTheorems
 pub mod HintTheorems
 pub mod HeldLaws
@@ -39,6 +42,7 @@ pub mod AnswerLaws
 pub mod RefusedRuns
 pub mod SetupTheorems
 pub mod BufferTheorems
+pub mod WitnessTheorems
 pub mod TextTheorems
 pub mod ReadList
 pub mod PrintedLaws
@@ -48,6 +52,8 @@ pub mod TableTheorems
 pub mod Starred
 pub mod AnswerCases
 pub mod HintCases
+pub mod RecordCases
+pub mod WitnessCases
 pub mod HeldRuns
 pub mod AnswerHeld
 pub mod SetupCases
@@ -57,4 +63,5 @@ pub mod WhyTheorems
 pub mod WhyRefused
 pub mod WhyCases
 pub mod WhyText
+pub mod WitnessText
 pub mod Theorems

@@ -127,6 +127,8 @@ table-formed room text {s} {es} e held =
     (record {
       in-limits = record { vars-fit = d .vars-fit; limit-some = omega arith; limit-fits = omega arith };
       status-fits = omega (arith, length-replicate {A = ℕ} (s .vars) 0);
+      calls-fit = omega (arith, length-replicate {A = ℕ} (s .vars) 0);
+      ways-fit = omega (arith, length-replicate {A = ℕ} (s .vars) 0);
       hints-fit = omega (arith, length-replicate {A = ℕ} (s .vars) 0);
       log-fits = omega (arith, length-replicate {A = ℕ} (logLength (s .vars)) 0);
     })

@@ -62,6 +62,8 @@ given c =
       budget = c .budget;
       limit = c .limit;
       status = replicate (c .vars) 7;
+      calls = replicate (c .vars) 7;
+      ways = replicate (c .vars) 7;
       hints = replicate (c .vars) 7;
       log = replicate (logLength (c .vars)) 7;
     }

@@ -1,6 +1,7 @@
 -- The laws of statuses (specs/Run): what compare, flip and a chunk without a model do to them, candidates, and the values of the
 -- forced literals.
 --
+--   countIf-add                   one more or not
 --   Freed, freed-counts           freeing leaves the forced, and what is no longer open is free
 --   length-freedFrom, freed-at    what an index holds after freeing; opens-freed-lt: one that passes is no longer open
 --   length-candidates, candidate-open     a candidate is the first model's literal of an open variable
@@ -40,7 +41,7 @@ freed-one true zero = (refl, refl, omega arith)
 freed-one true (suc s) = (refl, refl, omega arith)
 freed-one false s = (refl, refl, omega arith)
 
-countIf-add : (b : Bool) (n : ℕ) → countIf b n ≡ countIf b 0 + n
+pub countIf-add : (b : Bool) (n : ℕ) → countIf b n ≡ countIf b 0 + n
 countIf-add true n = omega arith
 countIf-add false n = omega arith
 

@@ -57,6 +57,7 @@ refusalNumber-le Refusal.BadLimits = omega arith
 refusalNumber-le (Refusal.BadList at) = omega arith
 refusalNumber-le (Refusal.EntryOverVars at) = omega arith
 refusalNumber-le (Refusal.BadLiteral at) = omega arith
+refusalNumber-le Refusal.NotFree = omega arith
 refusalNumber-le Refusal.ManyHeld = omega arith
 
 runNumber-le : (a : RunAnswer) → runNumber a ≤ 21

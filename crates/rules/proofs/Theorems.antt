@@ -5,7 +5,7 @@ use mathlib.Core.Logic.{_≢_, _⊎_, _↔_}
 use mathlib.Core.Bool.{true}
 use mathlib.Core.List.{List, [], _∷_, _++_, map}
 use mathlib.Core.Option.{none, some}
-use Prim.Native.Nat.{ℕ, suc, _+_, _-_, _≤_, _<_}
+use Prim.Native.Nat.{ℕ, suc, pred, _+_, _-_, _≤_, _<_}
 use lib.IntN.{ℤ, pos, negsuc}
 use lib.ListN.{length, getD, take, drop, set, replicate}
 use Rattle.rules.specs.declared.ReadAnswer.{ReadAnswer}
@@ -23,17 +23,23 @@ use Rattle.rules.specs.Reading.{readingOf, filled, entriesAfter, Reads}
 use Rattle.rules.specs.Grammar.{NoLf, TokenEnd, WithHeader, Dimacs}
 use Rattle.rules.specs.Refusals.{Refuses}
 use Rattle.rules.specs.Plain.{decimal, plain, entriesOf, Within}
-use Rattle.rules.specs.Meaning.{Clause, Values, varOf, negated, indexOf, clauses, satisfies, LitUpTo, Model, Proper, bitOf}
+use Rattle.rules.specs.Meaning.{Clause, Values, valueAt, varOf, negated, indexOf, clauses, satisfies, LitUpTo, Model, Proper, bitOf}
 use Rattle.rules.specs.Closing.{stateOf, under-way, round, again, closing, clash, closed}
 use Rattle.rules.specs.Visits.{Visits, Quiet}
 use Rattle.rules.specs.Search.{model, no-model, triesOf, onClosed, callOn}
 use Rattle.rules.specs.Units.{forcedClauses}
 use Rattle.rules.specs.Models.{Covers, LeastModel, NoModelFrom, NoModel, Forced, Free, WitnessOf}
 use Rattle.rules.specs.Run.{Task, Progress, statusAt, isForcedTo, opens, flipped, chunkOf, constraint, chunkCall, blank, onOpen, chunks, Ended}
-use Rattle.rules.specs.Run.{firstCall, run}
+use Rattle.rules.specs.Run.{Row, literalAt, firstCall, run}
 use Rattle.rules.specs.Trace.{Takes, Reached, Ends, Leaves, withLimits}
+use Rattle.rules.specs.Records.{openRecord, recordAt, statusesOf, callsOf, waysOf}
+use Rattle.rules.specs.Recorded.{Recorded, Counted, RecordsIn}
+use Rattle.rules.specs.Witness.{witnessAt, PairAt, FreeIn, Asked, askedTask, askedRefusal, askedReport, literalsFrom, firstAfter, witnessAfter}
+use Rattle.rules.specs.Witness.{Witnesses, lentFor}
+use Rattle.rules.specs.WitnessPrinted.{witnessAsked, witnessTextOf, maxWitness, PrintsWitness}
 use Rattle.rules.specs.Hints.{hintsOf, HeldBy, FirstFalse}
-use Rattle.rules.specs.Answer.{Given, Buffers, logLength, refusalOf, taskOf, reportOfRun, reportOf, statusAfter, hintsAfter, logOfRows, logAfter}
+use Rattle.rules.specs.Answer.{Given, Buffers, logLength, refusalOf, taskOf, reportOfRun, reportOf, statusAfter, callsAfter, waysAfter, hintsAfter}
+use Rattle.rules.specs.Answer.{logOfRows, logAfter}
 use Rattle.rules.specs.Answer.{isFree, isForced, isEnded, plainRefusal, plainTask, Runs}
 use Rattle.rules.specs.Held.{withHeld, listWith, holding, Holdable, HeldModel}
 use Rattle.rules.specs.RunRefusals.{Accepted, RunRefuses}
@@ -65,8 +71,13 @@ use Rattle.rules.proofs.WhyRefused as refused-reasons
 use Rattle.rules.proofs.Starred as run-cases
 use Rattle.rules.proofs.AnswerCases as more-cases
 use Rattle.rules.proofs.EdgeCases as edges
+use Rattle.rules.proofs.RecordTheorems as record-theorems
+use Rattle.rules.proofs.RecordCases as record-cases
+use Rattle.rules.proofs.WitnessTheorems as witness-theorems
+use Rattle.rules.proofs.WitnessCases as shown-cases
 use Rattle.rules.proofs.WhyCases as reason-cases
 use Rattle.rules.proofs.WhyText as reason-text
+use Rattle.rules.proofs.WitnessText as witness-text
 use Rattle.rules.proofs.HintTheorems as hints
 use Rattle.rules.proofs.HintCases as held-cases
 use Rattle.rules.proofs.HeldLaws as held-laws
@@ -196,7 +207,7 @@ run-acceptance = refused-runs.run-accepted
 -- A refused run returns zero counts and writes nothing.
 pub run-refused-nothing : (g : Given) (a : Refusal) → RunRefuses g a
     → (reportOf g ≡ record { answer = RunAnswer.Refused a; calls = 0; tries = 0; forced = 0; free = 0 })
-    × (statusAfter g ≡ g .status) × (hintsAfter g ≡ g .hints) × (logAfter g ≡ g .log)
+    × (statusAfter g ≡ g .status) × (callsAfter g ≡ g .calls) × (waysAfter g ≡ g .ways) × (hintsAfter g ≡ g .hints) × (logAfter g ≡ g .log)
 run-refused-nothing = buffers.refused-writes-nothing
 
 -- An accepted run writes the statuses into the first V bytes, and leaves the rest.
@@ -204,6 +215,17 @@ pub run-status : (g : Given) → Accepted g
     → (take (g .vars) (statusAfter g) ≡ run (taskOf g) .progress .statuses)
     × (drop (g .vars) (statusAfter g) ≡ drop (g .vars) (g .status))
 run-status = buffers.status-written
+
+-- It writes the calls and the ways of the records into the first V elements of their buffers, and leaves the rest.
+pub run-calls-buffer : (g : Given) → Accepted g
+    → (take (g .vars) (callsAfter g) ≡ callsOf (run (taskOf g) .progress .records))
+    × (drop (g .vars) (callsAfter g) ≡ drop (g .vars) (g .calls))
+run-calls-buffer = buffers.calls-written
+
+pub run-ways-buffer : (g : Given) → Accepted g
+    → (take (g .vars) (waysAfter g) ≡ waysOf (run (taskOf g) .progress .records))
+    × (drop (g .vars) (waysAfter g) ≡ drop (g .vars) (g .ways))
+run-ways-buffer = buffers.ways-written
 
 -- It writes the hints into the first V numbers, and leaves the rest.
 pub run-hints : (g : Given) → Accepted g
@@ -294,6 +316,84 @@ module _ (k : Task) (limit : 1 ≤ k .limit) where
   pub no-model-table : run k .answer ≡ RunAnswer.NoModel
       → (run k .progress .statuses ≡ replicate (k .vars) 0) × (length (run k .progress .rows) ≡ 1)
   no-model-table = call-theorems.no-model-table k limit
+
+  -- However a run ends, the statuses of the records are the statuses.
+  pub record-statuses : statusesOf (run k .progress .records) ≡ run k .progress .statuses
+  record-statuses = record-theorems.record-statuses k limit
+
+  -- However a run ends, a variable is open exactly if its call is 0, exactly if its way is open; free exactly if compare or flip settled
+  -- it; forced exactly if a chunk did; and its call is one that was begun.
+  pub records-say : (i : ℕ) → Recorded (length (run k .progress .rows)) (recordAt (run k .progress .records) i)
+  records-say = record-theorems.run-recorded k limit
+
+  -- However a run ends, each row's two drops are the counts of the records with its call that compare and flip settled, and its chunk, if
+  -- it says 2, is the count of those that a chunk settled; a row that says something else has none of those.
+  pub log-counts-records : (r : Row) → In r (run k .progress .rows) → Counted (run k .progress .records) r
+  log-counts-records = record-theorems.run-counted k limit
+
+  -- All of this, of what the buffers show.
+  pub records-in :
+      RecordsIn (k .vars) (length (run k .progress .rows)) (run k .progress .statuses) (callsOf (run k .progress .records))
+      (waysOf (run k .progress .records)) (logOfRows (k .vars) (run k .progress .rows))
+  records-in = record-theorems.run-records-in k limit
+
+  -- After "no model" every record is open.
+  pub no-model-records : run k .answer ≡ RunAnswer.NoModel → run k .progress .records ≡ replicate (k .vars) openRecord
+  no-model-records = record-theorems.no-model-records k limit
+
+  -- However a run ends, the first model and the witness of a variable marked free are two models that differ on it; the first one is the
+  -- first that the run found, and the other one is the witness that `free-witness` speaks of.
+  pub free-pair : (i : ℕ) → i < k .vars → statusAt (run k .progress .statuses) i ≡ 1 → PairAt (k .vars) (k .formula) (run k .progress) i
+  free-pair = witness-theorems.run-pair k limit
+
+-- ---- the witness
+
+-- Each number before 14 is given exactly when a run gives it that is lent buffers as long.
+pub witness-refusals : (a : Asked) (r : Refusal) → r ≢ Refusal.NotFree → (askedRefusal a ≡ some r) ↔ RunRefuses (lentFor a) r
+witness-refusals = witness-theorems.asked-refused
+
+-- 14 is given exactly if that run is accepted and the variable is not free in it.
+pub witness-not-free : (a : Asked)
+    → (askedRefusal a ≡ some Refusal.NotFree) ↔ (Accepted (lentFor a) × (FreeIn (a .vars) (run (askedTask a) .progress) (a .variable) → ⊥))
+witness-not-free = witness-theorems.asked-not-free
+
+-- Otherwise nothing is refused.
+pub witness-answered : (a : Asked) → (askedRefusal a ≡ none) ↔ (Accepted (lentFor a) × FreeIn (a .vars) (run (askedTask a) .progress) (a .variable))
+witness-answered = witness-theorems.asked-answered
+
+-- What is refused returns zero counts and writes nothing.
+pub witness-refused-nothing : (a : Asked) (r : Refusal) → askedRefusal a ≡ some r
+    → (askedReport a ≡ record { answer = RunAnswer.Refused r; calls = 0; tries = 0; forced = 0; free = 0 })
+    × (firstAfter a ≡ a .first) × (witnessAfter a ≡ a .witness)
+witness-refused-nothing = witness-theorems.refused-nothing
+
+-- Otherwise V literals of the run's first model and of the witness are written, and the rest stays.
+pub witness-first : (a : Asked) → Accepted (lentFor a) → FreeIn (a .vars) (run (askedTask a) .progress) (a .variable)
+    → (take (a .vars) (firstAfter a) ≡ literalsFrom 0 (run (askedTask a) .progress .first)) × (drop (a .vars) (firstAfter a) ≡ drop (a .vars) (a .first))
+witness-first = witness-theorems.first-written
+
+pub witness-second : (a : Asked) → Accepted (lentFor a) → FreeIn (a .vars) (run (askedTask a) .progress) (a .variable)
+    → (take (a .vars) (witnessAfter a) ≡ literalsFrom 0 (witnessAt (run (askedTask a) .progress) (pred (a .variable))))
+    × (drop (a .vars) (witnessAfter a) ≡ drop (a .vars) (a .witness))
+witness-second = witness-theorems.witness-written
+
+-- They are two models of the formula and the held literals that differ on the variable.
+pub witness-pair : (a : Asked) → Accepted (lentFor a) → FreeIn (a .vars) (run (askedTask a) .progress) (a .variable)
+    → PairAt (a .vars) (withHeld (clauses (a .entries)) (a .held)) (run (askedTask a) .progress) (pred (a .variable))
+witness-pair = witness-theorems.asked-pair
+
+-- The literal of a variable stands at its index, with the sign of its value.
+pub literal-for-each : (m : Values) (i : ℕ) (d : ℤ) → i < length m → getD (literalsFrom 0 m) i d ≡ literalAt (0 + i) (valueAt m i)
+literal-for-each = witness-theorems.literal-at 0
+
+-- The two lines that are printed are never longer than 4,096 bytes, whatever the text and the variable.
+pub witness-bound : (text : List ℕ) (v : ℕ) → length (witnessTextOf text v) ≤ maxWitness
+witness-bound = witness-text.length-witnessTextOf
+
+-- Of an accepted text nothing is refused but the variable.
+pub witness-only : {text : List ℕ} {vars n : ℕ} {es : List ℤ} → Dimacs text vars n es → (v : ℕ) (a : Refusal)
+    → askedRefusal (witnessAsked vars es v) ≡ some a → a ≡ Refusal.NotFree
+witness-only = witness-text.only-not-free
 
 -- ---- choices already made
 
@@ -516,6 +616,14 @@ starred = run-cases.starred
 pub further-cases : all run-cases.passes more-cases.further ≡ true
 further-cases = more-cases.further-cases
 
+-- The calls and ways of both.
+pub recorded-cases : record-cases.allPass (run-cases.cases ++ more-cases.further) (record-cases.lines ++ record-cases.furtherLines) ≡ true
+recorded-cases = record-cases.recorded-cases
+
+-- First models and witnesses of small formulas, and what is refused with 14.
+pub witness-cases : all shown-cases.passes shown-cases.witnesses ≡ true
+witness-cases = shown-cases.witness-cases
+
 -- The hints of small formulas.
 pub hint-cases : all held-cases.passes held-cases.hintCases ≡ true
 hint-cases = held-cases.hint-cases
@@ -543,7 +651,16 @@ run-edges = edges.run-edges
 pub shown : all printed.passes printed.tables ≡ true
 shown = printed.shown
 
+-- Printed witnesses, and a line for each kind of refusal.
+pub shown-witnesses : all witness-text.passes witness-text.answers ≡ true
+shown-witnesses = witness-text.shown-witnesses
+
 -- ---- no second result
+
+-- One number and one buffer satisfy the printed witness's contract.
+pub prints-witness-unique : {text : List ℕ} {v : ℕ} {before : List ℕ} {n n′ : ℕ} {b b′ : List ℕ}
+    → PrintsWitness text v before n b → PrintsWitness text v before n′ b′ → (n ≡ n′) × (b ≡ b′)
+prints-witness-unique = witness-text.prints-witness-unique
 
 -- One result and one buffer satisfy the reader's contract.
 pub reads-unique : {text : List ℕ} {before : List ℤ} {r r′ : Reading} {b b′ : List ℤ}
@@ -553,6 +670,10 @@ reads-unique = reading.reads-unique
 -- One result and one content of each buffer satisfy the run's contract.
 pub runs-unique : {g : Given} {r r′ : Report} {b b′ : Buffers} → Runs g r b → Runs g r′ b′ → (r ≡ r′) × (b ≡ b′)
 runs-unique = buffers.runs-unique
+
+-- One result and one content of both buffers satisfy the witness's contract.
+pub witnesses-unique : {a : Asked} {r r′ : Report} {x x′ y y′ : List ℤ} → Witnesses a r x y → Witnesses a r′ x′ y′ → (r ≡ r′) × (x ≡ x′) × (y ≡ y′)
+witnesses-unique = witness-theorems.witnesses-unique
 
 -- One result and one buffer satisfy the contract of one valid setup.
 pub sets-up-unique : {g : SetupGiven} {r r′ : Report} {b b′ : List ℕ} → SetsUp g r b → SetsUp g r′ b′ → (r ≡ r′) × (b ≡ b′)

@@ -99,6 +99,8 @@ module _ (g : WhyGiven) where
       record {
         in-limits = record { vars-fit = w .vars-fit; limit-some = omega arith; limit-fits = omega arith };
         status-fits = omega (arith, length-replicate {A = ℕ} (g .vars) 0);
+        calls-fit = omega (arith, length-replicate {A = ℕ} (g .vars) 0);
+        ways-fit = omega (arith, length-replicate {A = ℕ} (g .vars) 0);
         hints-fit = omega (arith, length-replicate {A = ℕ} (g .vars) 0);
         log-fits = omega (arith, length-replicate {A = ℕ} (logLength (g .vars)) 0);
       }

@@ -99,7 +99,7 @@ length-spaceBefore zero = omega arith
 length-spaceBefore (suc zero) = omega arith
 length-spaceBefore (suc (suc v)) = omega arith
 
-length-literals : (v : ℕ) (bits : List ℕ) → v + length bits ≤ 257 → length (pieces modelLiteral v bits) ≤ 5 * length bits
+pub length-literals : (v : ℕ) (bits : List ℕ) → v + length bits ≤ 257 → length (pieces modelLiteral v bits) ≤ 5 * length bits
 length-literals v [] h = omega arith
 length-literals v (b ∷ bits) h =
     omega (

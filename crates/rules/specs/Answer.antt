@@ -15,6 +15,7 @@ use Rattle.rules.specs.Lists.{any, count, joined, nthIndex, Check, check
 use Rattle.rules.specs.Numbers.{maxVars, maxClauses, maxEntries, maxChunk, outcomeNumber}
 use Rattle.rules.specs.Meaning.{varOf, clauses}
 use Rattle.rules.specs.Reading.{isZero}
+use Rattle.rules.specs.Records.{callsOf, waysOf}
 use Rattle.rules.specs.Run.{Task, Row, Ended, run}
 use Rattle.rules.specs.Hints.{hintsOf}
 use Rattle.rules.specs.Held.{withHeld, heldRules}
@@ -27,17 +28,21 @@ pub record Given : Type 0 where
   pub budget : ℕ
   pub limit : ℕ
   pub status : List ℕ
+  pub calls : List ℕ
+  pub ways : List ℕ
   pub hints : List ℕ
   pub log : List ℕ
 
 -- the buffers that a run is lent
 pub record Buffers : Type 0 where
   pub status : List ℕ
+  pub calls : List ℕ
+  pub ways : List ℕ
   pub hints : List ℕ
   pub log : List ℕ
 
-abbrev pub buffers : List ℕ → List ℕ → List ℕ → Buffers
-buffers status hints log = record { status = status; hints = hints; log = log }
+abbrev pub buffers : List ℕ → List ℕ → List ℕ → List ℕ → List ℕ → Buffers
+buffers status calls ways hints log = record { status = status; calls = calls; ways = ways; hints = hints; log = log }
 
 abbrev pub given : List ℤ → ℕ → List ℤ → ℕ → ℕ → Buffers → Given
 given es vars held budget limit lent =
@@ -48,6 +53,8 @@ given es vars held budget limit lent =
       budget = budget;
       limit = limit;
       status = lent .status;
+      calls = lent .calls;
+      ways = lent .ways;
       hints = lent .hints;
       log = lent .log;
     }
@@ -85,11 +92,12 @@ abbrev pub outOfLimits : ℕ → ℕ → Bool
 outOfLimits vars limit = ltb maxVars vars || (eqb limit 0 || ltb maxChunk limit)
 
 -- 1, by the lengths of the buffers
-abbrev pub tooShort : ℕ → ℕ → ℕ → ℕ → Bool
-tooShort vars status hints log = ltb status vars || (ltb hints vars || ltb log (logLength vars))
+abbrev pub tooShort : ℕ → ℕ → ℕ → ℕ → ℕ → ℕ → Bool
+tooShort vars status calls ways hints log =
+    ltb status vars || (ltb calls vars || (ltb ways vars || (ltb hints vars || ltb log (logLength vars))))
 
 abbrev pub isShort : Given → Bool
-isShort g = tooShort (g .vars) (length (g .status)) (length (g .hints)) (length (g .log))
+isShort g = tooShort (g .vars) (length (g .status)) (length (g .calls)) (length (g .ways)) (length (g .hints)) (length (g .log))
 
 unfoldable pub refusalOf : Given → Option Refusal
 refusalOf g = firstOf (takingRules (outOfLimits (g .vars) (g .limit)) (isShort g) (g .entries) (g .vars) (g .held))
@@ -131,7 +139,7 @@ reportIf (some a) k = record { answer = RunAnswer.Refused a; calls = 0; tries = 
 unfoldable pub reportOf : Given → Report
 reportOf g = reportIf (refusalOf g) (taskOf g)
 
--- ---- what the buffers hold: the first V bytes, V numbers and 6(V + 1) numbers; a refused run writes nothing, and the rest stays
+-- ---- what the buffers hold: the first V elements, and of the log 6(V + 1) numbers; a refused run writes nothing, and the rest stays
 
 abbrev pub statusIf : Option Refusal → Task → List ℕ → List ℕ
 statusIf none k before = run k .progress .statuses ++ drop (k .vars) before
@@ -139,6 +147,20 @@ statusIf (some a) k before = before
 
 unfoldable pub statusAfter : Given → List ℕ
 statusAfter g = statusIf (refusalOf g) (taskOf g) (g .status)
+
+abbrev pub callsIf : Option Refusal → Task → List ℕ → List ℕ
+callsIf none k before = callsOf (run k .progress .records) ++ drop (k .vars) before
+callsIf (some a) k before = before
+
+unfoldable pub callsAfter : Given → List ℕ
+callsAfter g = callsIf (refusalOf g) (taskOf g) (g .calls)
+
+abbrev pub waysIf : Option Refusal → Task → List ℕ → List ℕ
+waysIf none k before = waysOf (run k .progress .records) ++ drop (k .vars) before
+waysIf (some a) k before = before
+
+unfoldable pub waysAfter : Given → List ℕ
+waysAfter g = waysIf (refusalOf g) (taskOf g) (g .ways)
 
 abbrev pub hintsIf : Option Refusal → Task → List ℕ → List ℕ
 hintsIf none k before = hintsOf k ++ drop (k .vars) before
@@ -166,5 +188,7 @@ logAfter g = logIf (refusalOf g) (taskOf g) (g .log)
 pub record Runs (g : Given) (result : Report) (after : Buffers) : Type 0 where
   pub result-is : result ≡ reportOf g
   pub status-is : after .status ≡ statusAfter g
+  pub calls-are : after .calls ≡ callsAfter g
+  pub ways-are : after .ways ≡ waysAfter g
   pub hints-are : after .hints ≡ hintsAfter g
   pub log-is : after .log ≡ logAfter g

@@ -10,6 +10,7 @@ pub mod Closing
 pub mod Visits
 pub mod Search
 pub mod Units
+pub mod Records
 pub mod Run
 pub mod Hints
 pub mod Held
@@ -17,10 +18,13 @@ pub mod Answer
 pub mod Trace
 pub mod RunRefusals
 pub mod Log
+pub mod Recorded
 pub mod Models
+pub mod Witness
 pub mod Printed
 pub mod Tables
 pub mod Setup
 pub mod Why
 pub mod ModelLine
 pub mod WhyPrinted
+pub mod WitnessPrinted

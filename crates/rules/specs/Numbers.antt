@@ -4,6 +4,7 @@ use Rattle.rules.specs.declared.Outcome.{Outcome}
 use Rattle.rules.specs.declared.ReadAnswer.{ReadAnswer}
 use Rattle.rules.specs.declared.Refusal.{Refusal}
 use Rattle.rules.specs.declared.RunAnswer.{RunAnswer}
+use Rattle.rules.specs.declared.Way.{Way}
 
 -- bytes of a text
 abbrev pub maxText : ℕ
@@ -31,6 +32,13 @@ abbrev pub outcomeNumber : Outcome → ℕ
 outcomeNumber Outcome.Model = 1
 outcomeNumber Outcome.NoModel = 2
 outcomeNumber Outcome.Stopped = 3
+
+-- how a variable was settled: 0 open, 1 compare, 2 flip, 3 chunk
+abbrev pub wayNumber : Way → ℕ
+wayNumber Way.Open = 0
+wayNumber Way.Compare = 1
+wayNumber Way.Flip = 2
+wayNumber Way.Chunk = 3
 
 -- the table of numbers and places, for a reading
 abbrev pub readNumber : ReadAnswer → ℕ
@@ -64,6 +72,7 @@ refusalNumber Refusal.BadLimits = 10
 refusalNumber (Refusal.BadList at) = 11
 refusalNumber (Refusal.EntryOverVars at) = 12
 refusalNumber (Refusal.BadLiteral at) = 13
+refusalNumber Refusal.NotFree = 14
 refusalNumber Refusal.ManyHeld = 15
 
 abbrev pub refusalPlace : Refusal → ℕ
@@ -72,6 +81,7 @@ refusalPlace Refusal.BadLimits = 0
 refusalPlace (Refusal.BadList at) = at
 refusalPlace (Refusal.EntryOverVars at) = at
 refusalPlace (Refusal.BadLiteral at) = at
+refusalPlace Refusal.NotFree = 0
 refusalPlace Refusal.ManyHeld = maxHeld
 
 -- and for a run

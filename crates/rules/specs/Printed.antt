@@ -115,6 +115,8 @@ tableGiven s es held =
       budget = tableBudget;
       limit = tableChunk;
       status = replicate (s .vars) 0;
+      calls = replicate (s .vars) 0;
+      ways = replicate (s .vars) 0;
       hints = replicate (s .vars) 0;
       log = replicate (logLength (s .vars)) 0;
     }

@@ -8,8 +8,11 @@ use lib.IntN.{ℤ, pos, negsuc}
 use lib.ListN.{length, getD, set, take, replicate}
 use Rattle.rules.specs.declared.Outcome.{Outcome}
 use Rattle.rules.specs.declared.RunAnswer.{RunAnswer}
+use Rattle.rules.specs.declared.Way.{Way}
+use Rattle.rules.specs.declared.Record.{Record}
 use Rattle.rules.specs.Lists.{count}
 use Rattle.rules.specs.Meaning.{Clause, Values, indexOf, trueByte, valueAt, negated, satisfies}
+use Rattle.rules.specs.Records.{openRecord, recordsFrom, wayIf}
 use Rattle.rules.specs.Search.{Call, model, no-model, stopped, callOn}
 
 -- what a run is about
@@ -28,11 +31,12 @@ pub record Row : Type 0 where
   pub by-flip : ℕ
   pub tries : ℕ
 
--- how far a run has come: its first model; for each variable 0 open, 1 free, 2 forced true, 3 forced false; the tries on the
--- meter; the rows; and the models found so far, which are not returned
+-- how far a run has come: its first model; for each variable 0 open, 1 free, 2 forced true, 3 forced false, and its record, which
+-- has the same status; the tries on the meter; the rows; and the models found so far, which are not returned
 pub record Progress : Type 0 where
   pub first : Values
   pub statuses : List ℕ
+  pub records : List Record
   pub tries : ℕ
   pub rows : List Row
   pub models : List Values
@@ -165,6 +169,7 @@ afterModel k p chunk m t =
     record {
       first = p .first;
       statuses = filtered k p m;
+      records = recordsFrom 0 (suc (length (p .rows))) (λ i. wayIf (differs (p .first) m i)) (filtered k p m) (p .records);
       tries = t;
       rows = p .rows ++ (modelRow k p chunk m t ∷ []);
       models = p .models ++ (m ∷ []);
@@ -175,6 +180,7 @@ afterNone p chunk t =
     record {
       first = p .first;
       statuses = forceFirst (p .first) (p .statuses) chunk;
+      records = recordsFrom 0 (suc (length (p .rows))) (λ i. Way.Chunk) (forceFirst (p .first) (p .statuses) chunk) (p .records);
       tries = t;
       rows = p .rows ++ (rowAfter p Outcome.NoModel chunk 0 0 t ∷ []);
       models = p .models;
@@ -185,6 +191,7 @@ afterStop p chunk t =
     record {
       first = p .first;
       statuses = p .statuses;
+      records = p .records;
       tries = t;
       rows = p .rows ++ (rowAfter p Outcome.Stopped chunk 0 0 t ∷ []);
       models = p .models;
@@ -221,7 +228,8 @@ chunks k size p = chunksIn (opens (p .statuses)) k size p
 
 -- before the first call: every variable is open
 abbrev pub begun : Task → Values → Progress
-begun k m = record { first = m; statuses = replicate (k .vars) 0; tries = 0; rows = []; models = [] }
+begun k m =
+    record { first = m; statuses = replicate (k .vars) 0; records = replicate (k .vars) openRecord; tries = 0; rows = []; models = [] }
 
 abbrev pub onFirst : Call → Task → Ended
 onFirst (model m t) k = chunks k 1 (afterModel k (begun k m) 0 m t)

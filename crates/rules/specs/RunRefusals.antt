@@ -25,11 +25,15 @@ pub record InLimits (g : Given) : Type 0 where
 pub record Lent (g : Given) : Type 0 where
   pub in-limits : InLimits g
   pub status-fits : g .vars ≤ length (g .status)
+  pub calls-fit : g .vars ≤ length (g .calls)
+  pub ways-fit : g .vars ≤ length (g .ways)
   pub hints-fit : g .vars ≤ length (g .hints)
   pub log-fits : logLength (g .vars) ≤ length (g .log)
 
 pub data TooShort (g : Given) : Type 0 where
   short-status : length (g .status) < g .vars → TooShort g
+  short-calls : length (g .calls) < g .vars → TooShort g
+  short-ways : length (g .ways) < g .vars → TooShort g
   short-hints : length (g .hints) < g .vars → TooShort g
   short-log : length (g .log) < logLength (g .vars) → TooShort g
 

@@ -44,6 +44,8 @@ setupRun g =
       budget = g .budget;
       limit = 1;
       status = g .values;
+      calls = replicate (g .vars) 0;
+      ways = replicate (g .vars) 0;
       hints = replicate (g .vars) 0;
       log = replicate (logLength (g .vars)) 0;
     }

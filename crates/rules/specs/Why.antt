@@ -186,7 +186,9 @@ pub record WhyLent (g : WhyGiven) : Type 0 where
 
 -- a run of the list for which nothing else is wrong: what it is refused for is the list's own
 abbrev pub listOnly : WhyGiven → Given
-listOnly g = given (g .entries) (g .vars) [] 0 1 (buffers (blank (g .vars)) (blank (g .vars)) (replicate (logLength (g .vars)) 0))
+listOnly g =
+    given (g .entries) (g .vars) [] 0 1
+    (buffers (blank (g .vars)) (blank (g .vars)) (blank (g .vars)) (blank (g .vars)) (replicate (logLength (g .vars)) 0))
 
 -- nothing is wrong
 pub record WhyAccepted (g : WhyGiven) : Type 0 where

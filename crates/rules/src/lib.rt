@@ -47,6 +47,9 @@ pub const WHY_BUDGET: u32 = 1000000;
 
 pub const MAX_WHY: usize = 32768;
 
+// "The printed witness": its budget and chunk limit are those of the table. No two lines are longer.
+pub const MAX_WITNESS: usize = 4096;
+
 // What a clause is under some values ("Closing").
 pub enum ClauseState {
     // It has no true literal and no unset one.
@@ -70,6 +73,21 @@ pub enum Outcome {
     Model,
     NoModel,
     Stopped,
+}
+
+// The way a variable was settled ("What comes back": 0, 1, 2, 3).
+pub enum Way {
+    Open,
+    Compare,
+    Flip,
+    Chunk,
+}
+
+// What a run has to say of one variable: its status, the call that settled it, and the way.
+pub struct Record {
+    pub status: u8,
+    pub call: u32,
+    pub way: Way,
 }
 
 // The answer of a reading, with its place where that is not fixed. Its number and place are readNumber and readPlace.
@@ -102,6 +120,7 @@ pub enum Refusal {
     BadList(usize),
     EntryOverVars(usize),
     BadLiteral(usize),
+    NotFree,
     ManyHeld,
 }
 

@@ -1,6 +1,6 @@
 // The numbers and places of docs/RULES.md, "What comes back", for each answer.
 ghost use mathlib.Core.Path.{_≡_};
-ghost use Rattle.rules.specs.Numbers.{outcomeNumber, readNumber, readPlace, refusalNumber, refusalPlace, runNumber, runPlace};
+ghost use Rattle.rules.specs.Numbers.{outcomeNumber, wayNumber, readNumber, readPlace, refusalNumber, refusalPlace, runNumber, runPlace};
 ghost use Rattle.rules.specs.Why.{whyNumber, whyPlace};
 
 // The log's second column.
@@ -12,6 +12,19 @@ pub fn outcome_number(outcome: crate::Outcome) -> u32
         crate::Outcome::Model => 1,
         crate::Outcome::NoModel => 2,
         crate::Outcome::Stopped => 3,
+    }
+}
+
+// The byte of a way.
+// Rules out: 1 for a flip; 0 for a chunk.
+pub fn way_number(way: crate::Way) -> u8
+    ensures { λ r. ⌜ r ≡ wayNumber way ⌝ }
+{
+    match way {
+        crate::Way::Open => 0,
+        crate::Way::Compare => 1,
+        crate::Way::Flip => 2,
+        crate::Way::Chunk => 3,
     }
 }
 
@@ -64,6 +77,7 @@ pub fn refusal_number(refusal: crate::Refusal) -> u32
         crate::Refusal::BadList(_) => 11,
         crate::Refusal::EntryOverVars(_) => 12,
         crate::Refusal::BadLiteral(_) => 13,
+        crate::Refusal::NotFree => 14,
         crate::Refusal::ManyHeld => 15,
     }
 }
@@ -79,6 +93,7 @@ pub fn refusal_place(refusal: crate::Refusal) -> usize
         crate::Refusal::BadList(at) => at,
         crate::Refusal::EntryOverVars(at) => at,
         crate::Refusal::BadLiteral(at) => at,
+        crate::Refusal::NotFree => 0,
         crate::Refusal::ManyHeld => crate::MAX_HELD,
     }
 }

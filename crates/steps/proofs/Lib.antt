@@ -4,3 +4,4 @@ pub mod ChunkLaws
 pub mod FlipLaws
 pub mod HintLaws
 pub mod ConstraintLaws
+pub mod RecordLaws

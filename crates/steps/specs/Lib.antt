@@ -4,4 +4,5 @@ pub mod Chunk
 pub mod Flip
 pub mod Hint
 pub mod Constraint
+pub mod Records
 pub mod Row

@@ -36,7 +36,8 @@ fn may_flip(flip: Flip) -> bool
 }
 
 // The other of the two values.
-fn other_byte(byte: u8) -> u8
+// Rules out: a value for an unset variable; the value itself.
+pub fn other_byte(byte: u8) -> u8
     ensures { λ r. ⌜ r ≡ otherByte byte ⌝ }
 {
     if byte == 0 {

@@ -6,7 +6,7 @@ use Rattle.rules.specs.RunRefusals.{Accepted}
 use Rattle.refusals.specs.declared.Checked.the-variants.{Accepted as NotRefused}
 use Rattle.refusals.specs.Refuse.{found}
 use Rattle.backbone.proofs.ListingLaws.{front-len}
-use Rattle.backbone.proofs.RunLaws.{checked-is, accepted, entries-most, is-formula, clauses-most, hints-len, log-len, allowed}
+use Rattle.backbone.proofs.RunLaws.{checked-is, accepted, entries-most, is-formula, clauses-most, records-lent, hints-len, log-len, allowed}
 use Rattle.backbone.proofs.RunLaws.{runs-refused, runs-accepted}
 use Rattle.backbone.proofs.run.Statement.{statement}
 use Rattle.backbone.proofs.run.Tie as tie
@@ -31,10 +31,10 @@ enum-told c = search needs
 abbrev the-given : tie.Start → Given
 the-given s =
     given (s .args .entries .now) (s .args .vars) (s .args .held .now) (s .args .budget) (s .args .«chunk-limit»)
-    (buffers (s .args .status .now) (s .args .hints .now) (s .args .log .now))
+    (buffers (s .args .status .now) (s .args .calls .now) (s .args .ways .now) (s .args .hints .now) (s .args .log .now))
 
 abbrev start : tie.After-refuse → tie.Start
-start c = c .before .before .before .before .before .before
+start c = c .before .before .before .before .before .before .before .before
 
 -- what was checked is what this run is refused for
 checked : (c : tie.After-refuse) → c .refuse .result ≡ found (refusalOf (the-given (start c)))
@@ -65,10 +65,22 @@ slice-aggregate-held-run-2 : tie.Need-slice-aggregate-held-run-2
 slice-aggregate-held-run-2 c = front-len _ _ (open-run (c .before .before) .listed .lent .status-fits)
 
 slice-relend-prefix-held-run-2 : tie.Need-slice-relend-prefix-held-run-2
-slice-relend-prefix-held-run-2 c = open-run (c .before .before) .listed .lent .hints-fit
+slice-relend-prefix-held-run-2 c = open-run (c .before .before) .listed .lent .calls-fit
 
 slice-aggregate-held-run-3 : tie.Need-slice-aggregate-held-run-3
-slice-aggregate-held-run-3 c = front-len _ _ (open-run (c .before .before .before) .listed .lent .hints-fit)
+slice-aggregate-held-run-3 c = front-len _ _ (open-run (c .before .before .before) .listed .lent .calls-fit)
+
+slice-relend-prefix-held-run-3 : tie.Need-slice-relend-prefix-held-run-3
+slice-relend-prefix-held-run-3 c = open-run (c .before .before .before) .listed .lent .ways-fit
+
+slice-aggregate-held-run-4 : tie.Need-slice-aggregate-held-run-4
+slice-aggregate-held-run-4 c = front-len _ _ (open-run (c .before .before .before .before) .listed .lent .ways-fit)
+
+slice-relend-prefix-held-run-4 : tie.Need-slice-relend-prefix-held-run-4
+slice-relend-prefix-held-run-4 c = open-run (c .before .before .before .before) .listed .lent .hints-fit
+
+slice-aggregate-held-run-5 : tie.Need-slice-aggregate-held-run-5
+slice-aggregate-held-run-5 c = front-len _ _ (open-run (c .before .before .before .before .before) .listed .lent .hints-fit)
 
 add-held-run : tie.Need-add-held-run
 add-held-run c = search needs
@@ -76,15 +88,15 @@ add-held-run c = search needs
 mul-held-run : tie.Need-mul-held-run
 mul-held-run c = search needs
 
-slice-relend-prefix-held-run-3 : tie.Need-slice-relend-prefix-held-run-3
-slice-relend-prefix-held-run-3 c = open-run (c .before .before .before) .listed .lent .log-fits
+slice-relend-prefix-held-run-5 : tie.Need-slice-relend-prefix-held-run-5
+slice-relend-prefix-held-run-5 c = open-run (c .before .before .before .before .before) .listed .lent .log-fits
 
-slice-aggregate-held-run-4 : tie.Need-slice-aggregate-held-run-4
-slice-aggregate-held-run-4 c = front-len _ _ (open-run (c .before .before .before .before) .listed .lent .log-fits)
+slice-aggregate-held-run-6 : tie.Need-slice-aggregate-held-run-6
+slice-aggregate-held-run-6 c = front-len _ _ (open-run (c .before .before .before .before .before .before) .listed .lent .log-fits)
 
 held-run-requires : tie.Need-held-run-requires
 held-run-requires c κs =
-    let told = c .before .before .before .before in
+    let told = c .before .before .before .before .before .before in
     let g = the-given (start (refused told)) in
     let lent = open-run told .listed .lent in
     record {
@@ -92,6 +104,7 @@ held-run-requires c κs =
       entries-most = entries-most g (said told);
       clauses-most = clauses-most g (said told);
       first-len = sym (front-len _ _ (lent .in-limits .vars-fit)) ∙ front-len _ _ (lent .status-fits);
+      lent = records-lent g (said told);
       hints-len = hints-len g (said told);
       log-len = log-len g (said told);
       allowed = allowed g (said told);
@@ -111,10 +124,16 @@ same-length-2 c = search needs
 same-length-3 : tie.Need-same-length-3
 same-length-3 c = search needs
 
+same-length-4 : tie.Need-same-length-4
+same-length-4 c = search needs
+
+same-length-5 : tie.Need-same-length-5
+same-length-5 c = search needs
+
 returns-2 : tie.Need-returns-2
 returns-2 c =
-    let ran = c .before .before .before .before .before .before .before in
-    let told = ran .before .before .before .before .before in
+    let ran = c .before .before .before .before .before .before .before .before .before .before .before in
+    let told = ran .before .before .before .before .before .before .before in
     runs-accepted (the-given (start (refused told))) (said told) (ran .held-run .ensures)
 
 pub run-spec : {M : Type 1} → statement M
@@ -132,13 +151,19 @@ run-spec =
     slice-aggregate-held-run-2
     slice-relend-prefix-held-run-2
     slice-aggregate-held-run-3
-    add-held-run
-    mul-held-run
     slice-relend-prefix-held-run-3
     slice-aggregate-held-run-4
+    slice-relend-prefix-held-run-4
+    slice-aggregate-held-run-5
+    add-held-run
+    mul-held-run
+    slice-relend-prefix-held-run-5
+    slice-aggregate-held-run-6
     held-run-requires
     returns
     same-length
     same-length-2
     same-length-3
+    same-length-4
+    same-length-5
     returns-2)

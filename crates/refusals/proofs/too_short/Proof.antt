@@ -16,12 +16,36 @@ returns c = let a = c .before .args in rw (lt-ltb (a .status) (a .vars) (c .if1 
 returns-2 : tie.Need-returns-2
 returns-2 c =
     let a = c .before .before .args in
-    rw (le-ltb (a .status) (a .vars) (c .before .if1 .left), lt-ltb (a .hints) (a .vars) (c .if2 .taken))
+    rw (le-ltb (a .status) (a .vars) (c .before .if1 .left), lt-ltb (a .calls) (a .vars) (c .if2 .taken))
 
 returns-3 : tie.Need-returns-3
 returns-3 c =
-    let a = c .before .before .args in
-    rw (le-ltb (a .status) (a .vars) (c .before .if1 .left), le-ltb (a .hints) (a .vars) (c .if2 .left))
+    let a = c .before .before .before .args in
+    rw (
+      le-ltb (a .status) (a .vars) (c .before .before .if1 .left),
+      le-ltb (a .calls) (a .vars) (c .before .if2 .left),
+      lt-ltb (a .ways) (a .vars) (c .if3 .taken),
+    )
+
+returns-4 : tie.Need-returns-4
+returns-4 c =
+    let a = c .before .before .before .before .args in
+    rw (
+      le-ltb (a .status) (a .vars) (c .before .before .before .if1 .left),
+      le-ltb (a .calls) (a .vars) (c .before .before .if2 .left),
+      le-ltb (a .ways) (a .vars) (c .before .if3 .left),
+      lt-ltb (a .hints) (a .vars) (c .if4 .taken),
+    )
+
+returns-5 : tie.Need-returns-5
+returns-5 c =
+    let a = c .before .before .before .before .args in
+    rw (
+      le-ltb (a .status) (a .vars) (c .before .before .before .if1 .left),
+      le-ltb (a .calls) (a .vars) (c .before .before .if2 .left),
+      le-ltb (a .ways) (a .vars) (c .before .if3 .left),
+      le-ltb (a .hints) (a .vars) (c .if4 .left),
+    )
 
 pub too-short-spec : {M : Type 1} → statement M
-too-short-spec = tie.close (tie.spec add-result mul-result returns returns-2 returns-3)
+too-short-spec = tie.close (tie.spec add-result mul-result returns returns-2 returns-3 returns-4 returns-5)

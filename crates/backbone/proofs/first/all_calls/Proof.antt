@@ -14,7 +14,7 @@ use Rattle.backbone.proofs.first.all_calls.Tie as tie
 -- ---- the places: where the function starts, and behind its first call
 
 abbrev start : tie.After-first-call → tie.Start
-start c = c .before .before .before .before .before .before .before
+start c = c .before .before .before .before .before .before .before .before .before
 
 abbrev called : tie.After-meter → tie.After-first-call
 called c = c .before .before .before
@@ -25,7 +25,7 @@ the-task s = task (s .args .entries .now) (length (s .args .status .now)) (s .ar
 -- ---- the answers
 
 first-call-requires : tie.Need-first-call-requires
-first-call-requires c κs = let s = c .before .before .before .before .before .before in rw (s .pre .values-len) (s .pre .begins .formula)
+first-call-requires c κs = let s = c .before .before .before .before .before .before .before .before in rw (s .pre .values-len) (s .pre .begins .formula)
 
 -- the first call is the run's
 ended : (c : tie.After-first-call)
@@ -39,7 +39,7 @@ enum-told c = search needs
 
 settle-requires : tie.Need-settle-requires
 settle-requires c κs =
-    let told = c .before .before .before .before in
+    let told = c .before .before .before .before .before .before in
     let call = called (told .before .before) in
     let p = start call .pre in
     record {
@@ -60,8 +60,14 @@ same-length-3 c = search needs
 same-length-4 : tie.Need-same-length-4
 same-length-4 c = search needs
 
+same-length-5 : tie.Need-same-length-5
+same-length-5 c = search needs
+
+same-length-6 : tie.Need-same-length-6
+same-length-6 c = search needs
+
 returns : tie.Need-returns
-returns c = c .before .before .before .before .before .before .before .before .settle .ensures
+returns c = c .before .before .before .before .before .before .before .before .before .before .before .before .settle .ensures
 
 cast-started : tie.Need-cast-started
 cast-started c = search needs
@@ -74,11 +80,11 @@ row-only-requires c κs =
     let s = start (called (c .before .before .before)) in
     row-begun (s .pre .begins .cleared) _ (c .started .ensures) _
 
-same-length-5 : tie.Need-same-length-5
-same-length-5 c = search needs
+same-length-7 : tie.Need-same-length-7
+same-length-7 c = search needs
 
-same-length-6 : tie.Need-same-length-6
-same-length-6 c = search needs
+same-length-8 : tie.Need-same-length-8
+same-length-8 c = search needs
 
 returns-2 : tie.Need-returns-2
 returns-2 c =
@@ -98,10 +104,12 @@ all-calls-spec =
     same-length-2
     same-length-3
     same-length-4
+    same-length-5
+    same-length-6
     returns
     cast-started
     started-requires
     row-only-requires
-    same-length-5
-    same-length-6
+    same-length-7
+    same-length-8
     returns-2)

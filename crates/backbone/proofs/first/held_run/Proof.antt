@@ -8,7 +8,7 @@ use Rattle.backbone.proofs.first.held_run.Tie as tie
 
 -- where the function starts
 abbrev start : tie.After-put-list → tie.Start
-start c = c .before .before .before .before .before .before
+start c = c .before .before .before .before .before .before .before .before
 
 slice-aggregate-put-list : tie.Need-slice-aggregate-put-list
 slice-aggregate-put-list c = search needs
@@ -25,7 +25,7 @@ slice-aggregate-accepted-run c =
 
 accepted-run-requires : tie.Need-accepted-run-requires
 accepted-run-requires c κs =
-    let put = c .before .before .before .before .before .before in
+    let put = c .before .before .before .before .before .before .before .before in
     rw (put-front (put .put-list .ensures)) (start put .pre)
 
 same-length : tie.Need-same-length
@@ -40,10 +40,16 @@ same-length-3 c = search needs
 same-length-4 : tie.Need-same-length-4
 same-length-4 c = search needs
 
+same-length-5 : tie.Need-same-length-5
+same-length-5 c = search needs
+
+same-length-6 : tie.Need-same-length-6
+same-length-6 c = search needs
+
 returns : tie.Need-returns
 returns c =
-    let ran = c .before .before .before .before .before .before .before .before in
-    let put = ran .before .before .before .before .before .before .before in
+    let ran = c .before .before .before .before .before .before .before .before .before .before .before .before in
+    let put = ran .before .before .before .before .before .before .before .before .before in
     rw (put-front (put .put-list .ensures)) at (ran .accepted-run .ensures)
 
 pub held-run-spec : {M : Type 1} → statement M
@@ -59,4 +65,6 @@ held-run-spec =
     same-length-2
     same-length-3
     same-length-4
+    same-length-5
+    same-length-6
     returns)

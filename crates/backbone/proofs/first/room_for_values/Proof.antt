@@ -9,11 +9,11 @@ array-borrow-prefix-values : tie.Need-array-borrow-prefix-values
 array-borrow-prefix-values c = search needs
 
 slice-aggregate-all-calls : tie.Need-slice-aggregate-all-calls
-slice-aggregate-all-calls c = front-len _ _ (c .before .before .before .before .before .pre .formula .vars-fit)
+slice-aggregate-all-calls c = front-len _ _ (c .before .before .before .before .before .before .before .pre .formula .vars-fit)
 
 all-calls-requires : tie.Need-all-calls-requires
 all-calls-requires c κs =
-    let p = c .before .before .before .before .before .before .before .before .pre in
+    let p = c .before .before .before .before .before .before .before .before .before .before .before .before .pre in
     record { begins = p; values-len = sym (front-len _ _ (p .formula .vars-fit)) }
 
 same-length : tie.Need-same-length
@@ -24,6 +24,12 @@ same-length-2 c = search needs
 
 same-length-3 : tie.Need-same-length-3
 same-length-3 c = search needs
+
+same-length-4 : tie.Need-same-length-4
+same-length-4 c = search needs
+
+same-length-5 : tie.Need-same-length-5
+same-length-5 c = search needs
 
 returns : tie.Need-returns
 returns c = search needs
@@ -38,4 +44,6 @@ room-for-values-spec =
     same-length
     same-length-2
     same-length-3
+    same-length-4
+    same-length-5
     returns)

@@ -8,15 +8,15 @@ use Rattle.backbone.proofs.first.with_hints.Tie as tie
 -- ---- the places: where the function starts, and behind its calls
 
 abbrev start : tie.After-room-for-values → tie.Start
-start c = c .before .before .before .before .before .before .before .before .before
+start c = c .before .before .before .before .before .before .before .before .before .before .before .before .before
 
 abbrev ran : tie.After-put-hints-arg2 → tie.After-room-for-values
-ran c = c .before .before .before .before .before .before .before .before
+ran c = c .before .before .before .before .before .before .before .before .before .before .before .before
 
 -- ---- the answers
 
 room-for-values-requires : tie.Need-room-for-values-requires
-room-for-values-requires c κs = c .before .before .before .before .before .before .before .before .pre .begins
+room-for-values-requires c κs = c .before .before .before .before .before .before .before .before .before .before .before .before .pre .begins
 
 put-hints-requires : tie.Need-put-hints-requires
 put-hints-requires c κs =
@@ -36,6 +36,12 @@ same-length-3 c = search needs
 same-length-4 : tie.Need-same-length-4
 same-length-4 c = search needs
 
+same-length-5 : tie.Need-same-length-5
+same-length-5 c = search needs
+
+same-length-6 : tie.Need-same-length-6
+same-length-6 c = search needs
+
 returns : tie.Need-returns
 returns c =
     let put = c .before .before .before .before in
@@ -53,4 +59,6 @@ with-hints-spec =
     same-length-2
     same-length-3
     same-length-4
+    same-length-5
+    same-length-6
     returns)

@@ -6,14 +6,14 @@ use Rattle.printed.proofs.table.put_run.Statement.{statement}
 use Rattle.printed.proofs.table.put_run.Tie as tie
 
 abbrev start : tie.After-run → tie.Start
-start c = c .before .before .before .before .before .before .before .before
+start c = c .before .before .before .before .before .before .before .before .before .before .before .before
 
 run-requires : tie.Need-run-requires
 run-requires c κs = search needs
 
 put-table-requires : tie.Need-put-table-requires
 put-table-requires c κs =
-    let ran = c .before .before .before .before .before .before .before .before .before in
+    let ran = c .before .before .before .before .before .before .before .before .before .before .before .before .before in
     let s = start ran in
     run-ready (s .pre .0 .runs) (s .pre .1) (ran .run .ensures) (s .pre .0 .room)
 
@@ -29,14 +29,22 @@ same-length-3 c = search needs
 same-length-4 : tie.Need-same-length-4
 same-length-4 c = search needs
 
+same-length-5 : tie.Need-same-length-5
+same-length-5 c = search needs
+
+same-length-6 : tie.Need-same-length-6
+same-length-6 c = search needs
+
 returns : tie.Need-returns
 returns c =
     let put = c .before .before in
-    let ran = put .before .before .before .before .before .before .before .before .before .before in
+    let ran = put .before .before .before .before .before .before .before .before .before .before .before .before .before .before in
     let s = start ran in
     record {
       put = put-same (run-table (s .pre .0 .runs) (s .pre .1) (ran .run .ensures)) (put .put-table .ensures);
       status-is = ran .run .ensures .status-is;
+      calls-are = ran .run .ensures .calls-are;
+      ways-are = ran .run .ensures .ways-are;
       hints-are = ran .run .ensures .hints-are;
       log-is = ran .run .ensures .log-is;
     }
@@ -44,4 +52,13 @@ returns c =
 pub put-run-spec : {M : Type 1} → statement M
 put-run-spec =
     tie.close
-    (tie.spec run-requires put-table-requires same-length same-length-2 same-length-3 same-length-4 returns)
+    (tie.spec
+    run-requires
+    put-table-requires
+    same-length
+    same-length-2
+    same-length-3
+    same-length-4
+    same-length-5
+    same-length-6
+    returns)
