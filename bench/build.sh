@@ -9,6 +9,7 @@ cfg=(--check-cfg 'cfg(cadical)' --check-cfg 'cfg(picosat)')
 found=""
 
 gcc -O2 -Wall -Wextra -Werror -Iinclude -c "$src/stack.c" -o "$out/stack.o" || exit 1
+gcc -O2 -std=c99 -Wall -Wextra -Werror -Iinclude -c "$src/one_try.c" -o "$out/one_try.o" || exit 1
 link="$out/stack.o"
 if [ -f /usr/include/cadical.hpp ]; then
     g++ -O2 -Wall -Wextra -Werror -c "$src/cadical_loop.cpp" -o "$out/cadical_loop.o" || exit 1

@@ -8,13 +8,26 @@
  *     igb_read     the text to a list of entries
  *     igb_run      the list to a status for each switch, how it was settled, the clause that holds it, and a log of the run
  *     igb_setup    the list to one valid setup
+ *     igb_close    the list to what follows at once, without a search
  *     igb_why      the list and a literal to the clauses that alone force it, or to a valid setup that has it false
  *     igb_witness  the list and a free switch to two valid setups that differ on it
  *     igb_witness_text     the text and a free switch to both setups printed, a line each
  *     igb_table    the text to the printed table, as the program `table` prints it
+ *     igb_version  the version of the library that is linked
  *
- * igb_run, igb_setup, igb_witness and igb_table take the literals that are held: choices that have been made already. What they say is
- * said of the setups with these choices; with none held, of all.
+ * A text, in short (docs/RULES.md, "The text", is the whole rule):
+ *   - blanks are space, tab, CR and LF; a line ends at LF, so that CR LF is taken too;
+ *   - a line whose first byte is c is a comment, before the header, between clauses and inside one;
+ *   - the header is `p cnf V C`, at the first byte of its line, V and C of 1 to 9 digits with no sign; before it stand only comments and
+ *     lines of blanks;
+ *   - behind it stand numbers, an optional - and 1 to 9 digits, where a 0 closes a clause; a clause may go over several lines, be empty,
+ *     and hold a literal twice or with both signs;
+ *   - exactly C clauses stand, each closed, with no variable above V; a % behind the last one ends the text.
+ * Refused, though some tools take it: +1 and -0; a byte order mark; a blank before p; a comment behind a blank; fewer clauses than the
+ * header says, or more; a last clause without its 0; a variable above V; a second header.
+ *
+ * igb_run, igb_setup, igb_close, igb_witness and igb_table take the literals that are held: choices that have been made already. What they
+ * say is said of the setups with these choices; with none held, of all.
  *
  * Every input is answered: what is wrong is refused with a number and a place, and nothing is undefined but what C itself asks for.
  * A pointer is valid for the length behind it, and a buffer that is written overlaps no other argument. With length 0 a pointer may
@@ -23,6 +36,17 @@
  * The library keeps nothing between calls, allocates nothing and writes only to the buffers it is lent, so threads may call it at the
  * same time on buffers of their own. A call takes less than IGB_STACK_BYTES of stack. The archive is for x86-64 Linux and asks for
  * memcpy and memset alone.
+ *
+ * Threads: IGB_STACK_BYTES is more than musl gives a thread that does not ask (128 KB): set it with pthread_attr_setstacksize, and add what
+ * the thread takes itself. glibc gives what `ulimit -s` says, mostly 8 MB.
+ *
+ * Signal handlers: no lock is taken and errno is left alone, so that a handler may call on buffers of its own, whatever it interrupted. It needs
+ * the same stack, which an alternate one of SIGSTKSZ bytes has not, and it takes as long as any call does.
+ *
+ * Time: a call ends by itself, and sooner only by its budget, which is looked at before each try. There is one closing for each try and one for
+ * each call of the search. A closing has at most one round more than the variables that it sets, so 257, and a round looks at every clause
+ * once. The slowest try that we know takes 2.1 ms (`bash bench/one_try.sh`, on an Intel Xeon); the runs of bench/RESULTS.md take 0.1 to 29
+ * microseconds a try.
  */
 #ifndef IGBEZOLUM_H
 #define IGBEZOLUM_H
@@ -33,6 +57,21 @@
 #ifdef __cplusplus
 extern "C" {
 #endif
+
+/* ---- version */
+
+/*
+ * The version of this header. igb_version returns that of the library: the same number for the same version. Before 1.0 a host of the
+ * shared library asks at its start whether IGB_VERSION / 100 == igb_version() / 100, and goes no further if not.
+ *
+ * Before 1.0 a minor version (0.6 to 0.7) may change what functions take and return, structs, and the least sizes of buffers; a patch
+ * version changes none of them. In no version does the number of an answer, a refusal, a status or a way get another meaning, is a text
+ * refused that was accepted before, or does a settled status change.
+ */
+#define IGB_VERSION_MAJOR 0
+#define IGB_VERSION_MINOR 8
+#define IGB_VERSION_PATCH 0
+#define IGB_VERSION (IGB_VERSION_MAJOR * 10000 + IGB_VERSION_MINOR * 100 + IGB_VERSION_PATCH)
 
 /* ---- sizes */
 
@@ -53,7 +92,7 @@ extern "C" {
 #define IGB_HINTS_LEN 256     /* uint32_t, for igb_run */
 #define IGB_LOG_LEN 1542      /* uint32_t, for igb_run: a row for each variable and one more */
 #define IGB_MARKS_LEN 1024    /* uint8_t, for igb_why */
-#define IGB_VALUES_LEN 256    /* uint8_t, for igb_setup and igb_why */
+#define IGB_VALUES_LEN 256    /* uint8_t, for igb_setup, igb_close and igb_why */
 #define IGB_WITNESS_LEN 256   /* int32_t, each of the two for igb_witness */
 #define IGB_WITNESS_TEXT_LEN 4096 /* uint8_t, for igb_witness_text */
 #define IGB_TABLE_LEN 9216    /* uint8_t, for igb_table */
@@ -66,7 +105,7 @@ extern "C" {
 
 /* ---- numbers */
 
-/* The answer of a reading, a run, a why or a witness. Places and indices count from 0; that of 0, 1, 10, 14, 20, 21 and 22 is 0. */
+/* The answer of a reading, a run, a setup, a closing, a why or a witness. Places and indices count from 0; that of 0, 1, 10, 14, 20, 21 and 22 is 0. */
 enum {
     IGB_OK = 0,                /* the text is accepted; the run is settled and there is a valid setup; the clauses are marked */
     IGB_SHORT_BUFFER = 1,      /* a lent buffer is too short */
@@ -78,14 +117,14 @@ enum {
     IGB_TOKEN_OVER_VARS = 7,   /* a variable above the header's number */
     IGB_MANY_TOKENS = 8,       /* one entry more than IGB_ENTRIES_MAX */
     IGB_SHORT_TEXT = 9,        /* the text ends inside a clause or before the last one; place: text length */
-    IGB_BAD_LIMITS = 10,       /* run, setup, why, witness: over IGB_VARS_MAX variables; run, witness: a chunk limit of 0 or over IGB_CHUNK_MAX */
+    IGB_BAD_LIMITS = 10,       /* run, setup, close, why, witness: over IGB_VARS_MAX variables; run, witness: a chunk limit of 0 or over IGB_CHUNK_MAX */
     IGB_BAD_LIST = 11,         /* these too: list over IGB_ENTRIES_MAX (place IGB_ENTRIES_MAX), not ended by 0 (its length), or with
                                   more than IGB_CLAUSES_MAX zeros (index of the first one too many) */
     IGB_ENTRY_OVER_VARS = 12,  /* these too: a variable above vars; place: index of the first */
-    IGB_BAD_LITERAL = 13,      /* why: the literal is 0 or above vars; run, setup, witness: a held literal is; place: its index */
+    IGB_BAD_LITERAL = 13,      /* why: the literal is 0 or above vars; run, setup, close, witness: a held literal is; place: its index */
     IGB_NOT_FREE = 14,         /* witness: the variable is 0, above vars, or not marked free by the run */
-    IGB_MANY_HELD = 15,        /* run, setup, witness: over IGB_HELD_MAX held literals; place IGB_HELD_MAX */
-    IGB_NO_MODEL = 20,         /* there is no valid setup */
+    IGB_MANY_HELD = 15,        /* run, setup, close, witness: over IGB_HELD_MAX held literals; place IGB_HELD_MAX */
+    IGB_NO_MODEL = 20,         /* there is no valid setup; close: a clause became false, which means the same */
     IGB_STOPPED = 21,          /* the budget stopped the run, and what is marked holds; or it stopped the why, and nothing is marked */
     IGB_NOT_FORCED = 22        /* why: a valid setup has the literal false */
 };
@@ -96,6 +135,13 @@ enum {
     IGB_FREE = 1,
     IGB_FORCED_ON = 2,
     IGB_FORCED_OFF = 3
+};
+
+/* The value of a variable after igb_close. */
+enum {
+    IGB_UNSET = 0,
+    IGB_FALSE = 1,
+    IGB_TRUE = 2
 };
 
 /* The way a variable was settled. */
@@ -152,6 +198,13 @@ typedef struct {
     uint32_t tries; /* at most the budget */
 } igb_why_report;
 
+typedef struct {
+    uint32_t answer;
+    uint32_t place;
+    uint32_t rounds; /* rounds over all clauses, the last one too; this and the next are 0 if it is refused */
+    uint32_t set;    /* variables that are set; 0 after IGB_NO_MODEL */
+} igb_closing;
+
 /*
  * Reads a text. Its entries are the literals of clause 1 and a 0, those of clause 2 and a 0, and so on.
  *
@@ -201,6 +254,18 @@ igb_report igb_setup(const int32_t *entries, size_t entries_len, uint32_t vars, 
                      uint8_t *values, size_t values_len);
 
 /*
+ * What follows at once from the list and the held literals: while a clause has no true literal and one distinct unset one, that one is set.
+ * There is no search and no budget. With IGB_OK the first `vars` bytes of `values` are what is set, IGB_UNSET, IGB_FALSE or IGB_TRUE, that of
+ * variable v at v - 1: every valid setup has these values, if there is one. IGB_NO_MODEL means that a clause became false, and so that there
+ * is no valid setup; the bytes are then zeros. A longer buffer keeps its rest. It is refused as igb_setup is, and then writes nothing.
+ *
+ * It goes by rounds, each of which looks at each clause and each held literal once, in order. Rounds are at most set + 1 after IGB_OK, and at
+ * most vars + 1 always: so a host may budget the frame time of a call before it makes it, by vars + 1 such looks at each clause.
+ */
+igb_closing igb_close(const int32_t *entries, size_t entries_len, uint32_t vars, const int32_t *held, size_t held_len, uint8_t *values,
+                      size_t values_len);
+
+/*
  * Why is a literal forced? Marks clauses of a list of `vars` variables that alone force it: no assignment makes all of them true with the
  * literal false, and without any single one of them there is such an assignment. Of two separate reasons the earlier one is marked.
  * `budget` is how many tries all calls may take together.
@@ -238,6 +303,9 @@ size_t igb_witness_text(const uint8_t *text, size_t text_len, uint32_t variable,
  * table is longer. A text that is refused has the table "refused N place P", and so has one whose held literals are.
  */
 size_t igb_table(const uint8_t *text, size_t text_len, const int32_t *held, size_t held_len, uint8_t *out, size_t out_len);
+
+/* The version of the library, as IGB_VERSION has it. */
+uint32_t igb_version(void);
 
 #ifdef __cplusplus
 }

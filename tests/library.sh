@@ -28,11 +28,14 @@ block() {
         in_section {if (/^    /) {if (!inside) k++; inside = 1; if (k == n) print substr($0, 5)} else inside = 0}' README.md
 }
 shown=$(block 2)
+# the functions of the header
+declared=$(grep -o '^[a-z0-9_]* igb_[a-z_]*(' include/igbezolum.h | sed 's/.* \(.*\)(/\1/' | sort)
 
 # The header says that nothing is kept between calls and what the archive asks for.
 if has nm; then
     symbols=$(nm "$archive" | awk 'NF >= 2 {print $(NF - 1), $NF}')
-    [ "$(grep -c '^T igb_' <<<"$symbols")" -eq 7 ] || { echo "library: the archive has not seven functions"; exit 1; }
+    functions=$(sed -n 's/^T \(igb_.*\)/\1/p' <<<"$symbols" | sort)
+    [ "$functions" = "$declared" ] || { echo "library: the archive has other functions than the header:" $functions; exit 1; }
     others=$(grep '^[UbBdDC] ' <<<"$symbols" | grep -v '^U mem\(cpy\|set\)$')
     [ -z "$others" ] || { echo "library: the archive has or asks for more than the header says:" $others; exit 1; }
 fi
@@ -45,13 +48,14 @@ if has gcc; then
         quietly "compiling a C++ host" g++ "${strict[@]}" -o target/c/forced_cpp -x c++ examples/forced.c -x none "$archive"
         [ "$(target/c/forced_cpp examples/surface_ring.cnf)" = "$shown" ] || { echo "library: a C++ host says something else"; exit 1; }
     fi
-    for name in interface why witness threads stack; do
+    for name in interface close why witness threads handler stack; do
         quietly "compiling $name.c" gcc -std=c99 -O1 -g "${strict[@]}" -pthread -o "target/c/$name" "tests/c/$name.c" "$archive"
         "target/c/$name" || exit 1
     done
     # not stack, which reads what a thread has left on its stack
     if has valgrind; then
         quietly "interface.c under valgrind" valgrind --error-exitcode=1 --leak-check=full -q target/c/interface
+        quietly "close.c under valgrind" valgrind --error-exitcode=1 --leak-check=full -q target/c/close
         quietly "why.c under valgrind" valgrind --error-exitcode=1 --leak-check=full -q target/c/why
         quietly "witness.c under valgrind" valgrind --error-exitcode=1 --leak-check=full -q target/c/witness
         quietly "threads.c under valgrind" valgrind --error-exitcode=1 --leak-check=full -q target/c/threads 5

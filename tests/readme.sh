@@ -23,4 +23,16 @@ if [ -z "$pair" ] || [ "$($asked)" != "$pair" ]; then
     echo "readme: README.md shows another pair than $asked prints"
     exit 1
 fi
+# what stands behind the words "finds no other difference" is what the diff of two tables prints, with the words shown before
+asked=$(awk '/^    diff /{print substr($0, 5); exit}' README.md)
+shown=$(awk '/^finds no other difference/{on = 1} on && /^    /{print substr($0, 5); seen = 1} seen && !/^    /{exit}' README.md)
+if [ -z "$asked" ] || [ -z "$shown" ] || [ "$(eval "$asked")" != "$shown" ]; then
+    echo "readme: README.md shows another difference than $asked prints"
+    exit 1
+fi
+# and it is of hints alone
+if printf '%s\n' "$shown" | grep '^[<>]' | grep -qv ' held by clause [0-9]*$'; then
+    echo "readme: two orders of one card differ in more than hints"
+    exit 1
+fi
 echo "readme: the runs are as shown"

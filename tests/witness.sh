@@ -8,7 +8,7 @@ program=target/bin/show_witness
 reference=target/reference
 rustc -O -D warnings -o "$reference" tests/reference/reference.rs || exit 2
 
-# says WHAT EXPECTED WORDS...: on standard error, with nothing on standard output; ./witness ends with 2 then
+# says WHAT EXPECTED WORDS...: on standard error, with nothing on standard output
 says() {
     local what=$1 expected=$2
     shift 2
@@ -19,11 +19,9 @@ says() {
 says "no variable" "witness: a variable is missing"
 for word in "" x -0 +1 1x "1 " 1234567890 -; do
     says "'$word'" "witness: the variable is no number" "$word"
-    ./witness examples/surface_ring.cnf "$word" >/dev/null 2>&1
-    [ $? -eq 2 ] || { echo "witness: ./witness FILE '$word' does not end with 2"; exit 1; }
 done
 for word in 0 -3 1 13 999999999; do
-    [ "$(./witness examples/surface_ring.cnf "$word")" = "refused 14 place 0" ] || { echo "witness: of '$word', which is not free, it says otherwise"; exit 1; }
+    [ "$("$program" "$word" <examples/surface_ring.cnf)" = "refused 14 place 0" ] || { echo "witness: of '$word', which is not free, it says otherwise"; exit 1; }
 done
 
 "$reference" --witness "$program" examples/*.cnf crates/vectors/data/{chain,groups,none,ruby31,cadical-{full,prime,sat,sub,unit,block,elim,ph}}*.cnf || exit 1

@@ -6,7 +6,9 @@ use std::{env, fs};
 
 fn main() -> Result<(), Box<dyn Error>> {
     let name = env::args().nth(1).ok_or("it needs the name of a file")?;
-    let run = read(&fs::read(name)?)?.run(Limits::default())?;
+    let text = fs::read(&name)?;
+    let card = read(&text).map_err(|refusal| format!("{name}: {}", refusal.within(&text)))?;
+    let run = card.run(Limits::default())?;
     for (switch, on) in run.forced() {
         let rule = run.held_by(switch).expect("a forced switch is held by a rule");
         println!("switch {switch} is always {}, held by rule {rule}", if on { "on" } else { "off" });

@@ -1,9 +1,9 @@
 //! Which switches of a card's rules are forced, and which are free.
 //!
 //! A card's rules are a DIMACS CNF text, one variable a switch. [`read`] takes the text, [`Formula::run`] works out the status of every
-//! switch, [`Formula::run_held`] the same where some choices are made, [`Formula::setup`] finds one valid setup, [`Formula::why`] says which
-//! rules force a switch, [`Formula::witness`] has two setups that differ on a free one, and [`table`] prints the statuses as the program
-//! `table` does. What breaks the rules is refused: [`Refusal`] says by which rule and where. The answers are those of a proved library, which
+//! switch, [`Formula::run_held`] the same where some choices are made, [`Formula::setup`] finds one valid setup, [`Formula::close`] says
+//! what follows at once, [`Formula::why`] which rules force a switch, [`Formula::witness`] has two setups that differ on a free one, and
+//! [`table`] prints the statuses as the program `table` does. What breaks the rules is refused: [`Refusal`] says by which rule and where. The answers are those of a proved library, which
 //! this crate links; [`raw`] has its functions as they are.
 //!
 //! ```
@@ -19,11 +19,14 @@
 //! assert_eq!(reason.clauses.iter().map(|clause| clause.number).collect::<Vec<_>>(), [1, 2]);
 //! assert_eq!(run.settled(2), Some(Settled { status: Status::Free, call: 1, way: Way::Flip }));
 //! assert_eq!(card.witness(2, Limits::default())?, (vec![true, false], vec![true, true]));
+//! assert_eq!(card.close(&[2])?.set().collect::<Vec<_>>(), [(1, true), (2, true)]);
 //! # Ok::<(), igbezolum::Refusal>(())
 //! ```
 
 #![deny(missing_docs, unsafe_code)]
 
+mod close;
+mod place;
 #[allow(unsafe_code)]
 pub mod raw;
 mod refusal;
@@ -31,6 +34,8 @@ mod run;
 mod why;
 mod witness;
 
+pub use close::Closing;
+pub use place::Within;
 pub use refusal::Refusal;
 pub use run::{CallEnd, End, Limits, LogRow, Run, Settled, Setup, Status, Way};
 pub use why::{Choice, Found, Kept, Reason, Why};

@@ -49,8 +49,22 @@ pub struct WhyReport {
     pub tries: u32,
 }
 
+/// What [`close`] answers; `include/igbezolum.h` has the same as `igb_closing`.
+#[repr(C)]
+#[derive(Clone, Copy, Debug, Default, PartialEq, Eq)]
+pub struct Closing {
+    /// 0 closed, 20 a clause became false, else the number of the refusal.
+    pub answer: u32,
+    /// The index of a refusal.
+    pub place: u32,
+    /// Rounds over all clauses; this and the next are 0 if it is refused.
+    pub rounds: u32,
+    /// Variables that are set; 0 after 20.
+    pub set: u32,
+}
+
 mod c {
-    use super::{Reading, Report, WhyReport};
+    use super::{Closing, Reading, Report, WhyReport};
 
     extern "C" {
         pub fn igb_read(text: *const u8, text_len: usize, entries: *mut i32, entries_len: usize) -> Reading;
@@ -83,6 +97,15 @@ mod c {
             values: *mut u8,
             values_len: usize,
         ) -> Report;
+        pub fn igb_close(
+            entries: *const i32,
+            entries_len: usize,
+            vars: u32,
+            held: *const i32,
+            held_len: usize,
+            values: *mut u8,
+            values_len: usize,
+        ) -> Closing;
         pub fn igb_why(
             entries: *const i32,
             entries_len: usize,
@@ -110,10 +133,11 @@ mod c {
         ) -> Report;
         pub fn igb_witness_text(text: *const u8, text_len: usize, variable: u32, out: *mut u8, out_len: usize) -> usize;
         pub fn igb_table(text: *const u8, text_len: usize, held: *const i32, held_len: usize, out: *mut u8, out_len: usize) -> usize;
+        pub fn igb_version() -> u32;
     }
 }
 
-// In all seven: the C functions ask for pointers that are valid for their lengths and for written buffers that overlap no other
+// In all of them: the C functions ask for pointers that are valid for their lengths and for written buffers that overlap no other
 // argument. Slices are that, and a `&mut` one overlaps nothing. The functions keep no pointer, and every input is answered.
 
 /// Reads a text. With 4,096 entries or more the first 4,096 are written: the list and then zeros; with fewer, or after 2, nothing is.
@@ -186,9 +210,23 @@ pub fn setup(entries: &[i32], vars: u32, held: &[i32], budget: u32, values: &mut
     unsafe { c::igb_setup(e, n, vars, k, m, budget, values.as_mut_ptr(), values.len()) }
 }
 
+/// What follows at once from a list with literals held. If it is not refused, the first `vars` values are written.
+pub fn close(entries: &[i32], vars: u32, held: &[i32], values: &mut [u8]) -> Closing {
+    let (e, n, k, m) = (entries.as_ptr(), entries.len(), held.as_ptr(), held.len());
+    // SAFETY: as said above.
+    unsafe { c::igb_close(e, n, vars, k, m, values.as_mut_ptr(), values.len()) }
+}
+
 /// Puts the table of a text with literals held at the start of a buffer and answers its length; 0, and nothing is written, if there is no
 /// room for 9,216 bytes.
 pub fn table(text: &[u8], held: &[i32], out: &mut [u8]) -> usize {
     // SAFETY: as said above.
     unsafe { c::igb_table(text.as_ptr(), text.len(), held.as_ptr(), held.len(), out.as_mut_ptr(), out.len()) }
+}
+
+/// The version of the library that is linked: 10,000 times the major number, 100 times the minor one and the patch number together.
+#[must_use]
+pub fn version() -> u32 {
+    // SAFETY: it takes nothing.
+    unsafe { c::igb_version() }
 }

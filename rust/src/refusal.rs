@@ -1,9 +1,23 @@
 //! What is refused, by which rule and where.
 
+use crate::place;
 use std::error::Error;
 use std::fmt;
 
-/// A refusal, one variant for each rule. Bytes and indices count from 0.
+/// A refusal, one variant for each rule. Bytes and indices count from 0. There may be more rules later: a `match` on all of these has an arm for
+/// them.
+///
+/// ```compile_fail,E0004
+/// use igbezolum::Refusal::*;
+/// fn known(refusal: igbezolum::Refusal) {
+///     match refusal {
+///         ShortBuffer | LongText | BadHeader { .. } | LargeHeader { .. } | BadToken { .. } | TokenBehind { .. } => {}
+///         TokenOverVars { .. } | ManyTokens { .. } | ShortText { .. } | BadLimits | BadList { .. } => {}
+///         EntryOverVars { .. } | BadLiteral { .. } | NotFree | ManyHeld => {}
+///     }
+/// }
+/// ```
+#[non_exhaustive]
 #[derive(Clone, Copy, Debug, PartialEq, Eq, Hash)]
 pub enum Refusal {
     /// 1: a lent buffer is too short. Only the functions of [`raw`](crate::raw) are lent buffers.
@@ -139,25 +153,11 @@ impl Refusal {
     }
 }
 
+/// Number, place, what is wrong and what was expected; [`within`](Refusal::within) displays the line too.
 impl fmt::Display for Refusal {
     fn fmt(&self, f: &mut fmt::Formatter<'_>) -> fmt::Result {
-        let what = match self {
-            ShortBuffer => "a lent buffer is too short",
-            LongText => "the text has over 32,768 bytes",
-            BadHeader { .. } => "the header is missing or malformed",
-            LargeHeader { .. } => "the header is over 256 variables or 1,024 clauses",
-            BadToken { .. } => "a malformed token",
-            TokenBehind { .. } => "a token after the last clause",
-            TokenOverVars { .. } | EntryOverVars { .. } => "a variable above the number of variables",
-            ManyTokens { .. } => "the 4,097th entry",
-            ShortText { .. } => "the text ends inside a clause or before the last one",
-            BadLimits => "over 256 variables, or a chunk limit of 0 or over 256",
-            ManyHeld => "over 256 held literals",
-            BadList { .. } => "the list is too long, not ended by 0, or has a 1,025th zero",
-            BadLiteral { .. } => "a literal that is 0 or above the number of variables",
-            NotFree => "the variable is not free",
-        };
-        write!(f, "refused {} place {}: {what}", self.number(), self.place())
+        let (what, expected) = place::words(self.number());
+        write!(f, "refused {} place {}: {what}: {expected}", self.number(), self.place())
     }
 }
 

@@ -96,6 +96,7 @@ pub struct LogRow {
 }
 
 /// A run that was not refused.
+#[non_exhaustive]
 #[derive(Clone, Debug, PartialEq, Eq)]
 pub struct Run {
     /// How it ended.
@@ -181,6 +182,7 @@ fn row_of(row: &[u32]) -> LogRow {
 }
 
 /// One valid setup that was asked for and not refused.
+#[non_exhaustive]
 #[derive(Clone, Debug, PartialEq, Eq)]
 pub struct Setup {
     /// How the call ended.

@@ -129,3 +129,11 @@ fn a_lent_buffer_is_too_short() {
     assert_eq!(&out[..length], b"answer 0 calls 2 tries 0 forced 1 free 0 open 0\n1 forced on held by clause 1\n");
     assert!(out[length..].iter().all(|&b| b == 7));
 }
+
+#[test]
+fn the_library_has_this_version() {
+    let number = |part: &str| part.parse::<u32>().expect("a number");
+    let [major, minor, patch] =
+        [env!("CARGO_PKG_VERSION_MAJOR"), env!("CARGO_PKG_VERSION_MINOR"), env!("CARGO_PKG_VERSION_PATCH")].map(number);
+    assert_eq!(raw::version(), major * 10_000 + minor * 100 + patch);
+}

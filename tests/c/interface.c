@@ -20,6 +20,7 @@ static void layout(void)
     CHECK(offsetof(igb_report, calls) == 8 && offsetof(igb_report, tries) == 12, what);
     CHECK(offsetof(igb_report, forced) == 16 && offsetof(igb_report, free) == 20, what);
     CHECK(IGB_LOG_LEN == IGB_LOG_ROW * (IGB_VARS_MAX + 1) && IGB_STATUS_LEN == IGB_VARS_MAX, what);
+    CHECK(igb_version() == IGB_VERSION, "version");
 }
 
 /* ---- the reader */

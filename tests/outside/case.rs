@@ -1,6 +1,6 @@
 //! A case: one call of the library and the seed of the paint of its buffers. As a file it is lines of a word and what it is:
 //!
-//!   call run           or read, setup, why, witness, lines, or table
+//!   call run           or read, setup, close, why, witness, lines, or table
 //!   paint 1
 //!   vars 3             run and setup: variables, budget, and the list
 //!   budget 100
@@ -11,8 +11,8 @@
 //!   ways_len 3
 //!   hints_len 3
 //!   log_len 24
-//!   values_len 3       setup and why: length of the buffer
-//!   held -1 2          run, setup, witness and table: the literals held; none if there is no such line
+//!   values_len 3       setup, close and why: length of the buffer
+//!   held -1 2          run, setup, close, witness and table: the literals held; none if there is no such line
 //!   literal -3         why: this, lengths of the buffers, and vars, budget and entries as above
 //!   marks_len 1024
 //!   variable 3         witness: this, lengths of the buffers, and vars, held, budget, chunk_limit and entries as above
@@ -47,6 +47,7 @@ pub enum Call {
     Read { text: Vec<u8>, room: usize },
     Run { entries: Vec<i32>, vars: u32, held: Vec<i32>, budget: u32, chunk_limit: u32, lengths: Lengths },
     Setup { entries: Vec<i32>, vars: u32, held: Vec<i32>, budget: u32, values_len: usize },
+    Close { entries: Vec<i32>, vars: u32, held: Vec<i32>, values_len: usize },
     Witness {
         entries: Vec<i32>,
         vars: u32,
@@ -74,6 +75,7 @@ impl Call {
             Call::Read { .. } => "read",
             Call::Run { .. } => "run",
             Call::Setup { .. } => "setup",
+            Call::Close { .. } => "close",
             Call::Why { .. } => "why",
             Call::Witness { .. } => "witness",
             Call::Table { .. } => "table",
@@ -139,6 +141,9 @@ impl fmt::Display for Case {
                 writeln!(f, "vars {vars}\nbudget {budget}\nvalues_len {values_len}")?;
                 writeln!(f, "held {}\nentries {}", words(held), words(entries))
             }
+            Call::Close { entries, vars, held, values_len } => {
+                writeln!(f, "vars {vars}\nvalues_len {values_len}\nheld {}\nentries {}", words(held), words(entries))
+            }
             Call::Witness { entries, vars, held, budget, chunk_limit, variable, first_len, witness_len } => {
                 writeln!(f, "vars {vars}\nbudget {budget}\nchunk_limit {chunk_limit}\nvariable {variable}")?;
                 writeln!(f, "first_len {first_len}\nwitness_len {witness_len}\nheld {}\nentries {}", words(held), words(entries))
@@ -172,6 +177,12 @@ impl FromStr for Case {
                 vars: number(word("vars")?)?,
                 held: held()?,
                 budget: number(word("budget")?)?,
+                values_len: number(word("values_len")?)?,
+            },
+            "close" => Call::Close {
+                entries: list(word("entries")?)?,
+                vars: number(word("vars")?)?,
+                held: held()?,
                 values_len: number(word("values_len")?)?,
             },
             "run" => Call::Run {

@@ -1,10 +1,12 @@
 //! One case judged: what the library answers and leaves in every buffer, against what the rules say. Buffers stand between guards and
 //! are painted before the call; everything is compared, guards too. A fault can be put into what the library gave, to show that it is
-//! noticed.
+//! noticed. Runs, setups, closings and witnesses that are not refused are made a second time with the same rules in another order.
 
 use crate::case::{Call, Case, MAX_LINES, MAX_TABLE};
+use crate::close;
 use crate::raw;
 use crate::rules::{self, Given};
+use crate::shuffle;
 use crate::texts::Random;
 use crate::why::{self, WhyGiven};
 use crate::witness::{self, WitnessGiven};
@@ -12,6 +14,14 @@ use crate::witness::{self, WitnessGiven};
 const GUARD: usize = 8;
 /// Up to so many variables all models are tried too.
 const FEW: u32 = 10;
+/// Answers to a list that is accepted, 14 among them: it is of a run.
+const ANSWERED: [i64; 4] = [0, 14, 20, 21];
+/// What another order of the same rules may change: the hints, which name clauses, the rounds of a closing, and the lists themselves.
+const BY_ORDER: [&str; 10] = [
+    "run.hints", "run.list", "run.held", "setup.list", "setup.held", "close.rounds", "close.list", "close.held", "witness.list", "witness.held",
+];
+/// Before the name of a fault: it is put into what the library gave for the other order.
+const AGAIN: &str = "again.";
 
 /// Numbers and buffers that a call gives, by name. A buffer has its guards, and `written` is how many elements the rules write.
 #[derive(Default)]
@@ -32,23 +42,32 @@ pub fn faults() -> Vec<String> {
     for call in ["run", "setup"] {
         all.extend(["answer", "place", "calls", "tries", "forced", "free"].map(|n| format!("{call}.{n}")));
     }
+    all.extend(["answer", "place", "rounds", "set"].map(|n| format!("close.{n}")));
     all.extend(["answer", "place", "calls", "tries"].map(|n| format!("why.{n}")));
     all.extend(["answer", "place", "calls", "tries", "forced", "free"].map(|n| format!("witness.{n}")));
     all.extend(["table.length".to_string(), "lines.length".to_string()]);
     for name in [
-        "read.entries", "run.status", "run.calls", "run.ways", "run.hints", "run.log", "setup.values", "why.marks", "why.values",
-        "witness.first", "witness.witness", "table.out", "lines.out",
+        "read.entries", "run.status", "run.calls", "run.ways", "run.hints", "run.log", "setup.values", "close.values", "why.marks",
+        "why.values", "witness.first", "witness.witness", "table.out", "lines.out",
     ] {
         all.extend(["before", "first", "last", "behind"].map(|place| format!("{name}.{place}")));
     }
     let lists = [
-        "read.text", "run.list", "run.held", "setup.list", "setup.held", "why.list", "witness.list", "witness.held", "table.text", "table.held",
-        "lines.text",
+        "read.text", "run.list", "run.held", "setup.list", "setup.held", "close.list", "close.held", "why.list", "witness.list", "witness.held",
+        "table.text", "table.held", "lines.text",
     ];
-    for name in lists.into_iter().chain(["run.models", "setup.models"]) {
+    for name in lists.into_iter().chain(["run.models", "setup.models", "close.models"]) {
         all.extend(["first", "last"].map(|place| format!("{name}.{place}")));
     }
-    all
+    // in the other order every number, and of each buffer the first place: the comparison is the same
+    let ordered = |f: &&String| {
+        let places = ["before", "last", "behind"];
+        ["run.", "setup.", "close.", "witness."].iter().any(|call| f.starts_with(call))
+            && !BY_ORDER.iter().any(|b| f.starts_with(b))
+            && !places.iter().any(|place| f.ends_with(place))
+    };
+    let again: Vec<String> = all.iter().filter(ordered).map(|f| format!("{AGAIN}{f}")).collect();
+    [all, again].concat()
 }
 
 impl Seen {
@@ -83,16 +102,16 @@ impl Seen {
         }
     }
 
-    /// Where two differ, if they do.
-    fn difference(&self, expected: &Seen) -> Option<String> {
+    /// Where two differ, if they do, but for the numbers and buffers of these names.
+    fn difference(&self, expected: &Seen, but: &[&str]) -> Option<String> {
         let parts = |s: &Seen| (s.numbers.len(), s.buffers.len());
         assert_eq!(parts(self), parts(expected), "every part is compared");
         for ((name, got), (_, want)) in self.numbers.iter().zip(&expected.numbers) {
-            if got != want {
+            if got != want && !but.contains(name) {
                 return Some(format!("{name} is {got}, and the rules say {want}"));
             }
         }
-        for (b, e) in self.buffers.iter().zip(&expected.buffers) {
+        for (b, e) in self.buffers.iter().zip(&expected.buffers).filter(|(b, _)| !but.contains(&b.name)) {
             assert_eq!(b.cells.len(), e.cells.len(), "{} is compared whole", b.name);
             if let Some(i) = (0..b.cells.len()).find(|&i| b.cells[i] != e.cells[i]) {
                 let at = i as i64 - GUARD as i64;
@@ -258,6 +277,38 @@ fn setup(r: &mut Random, entries: &[i32], vars: u32, held: &[i32], budget: u32, 
     (got, want)
 }
 
+fn closing(r: &mut Random, entries: &[i32], vars: u32, held: &[i32], values_len: usize) -> (Seen, Seen) {
+    let (mut got, mut want) = (Seen::default(), Seen::default());
+    let before = painted(r, values_len, |x| x as u8);
+    let mut values = before.clone();
+    let (lent, lent_held) = (Box::<[i32]>::from(entries), Box::<[i32]>::from(held));
+    let x = raw::close(&lent, vars, &lent_held, &mut values[GUARD..GUARD + values_len]);
+    let (numbers, new) = match close::close(entries, vars, held, values_len) {
+        Err((answer, place)) => ([answer as usize, place, 0, 0], Vec::new()),
+        Ok(c) => ([c.answer as usize, 0, c.rounds as usize, c.set()], c.values),
+    };
+    let names = ["close.answer", "close.place", "close.rounds", "close.set"];
+    for ((name, x), n) in names.into_iter().zip([x.answer, x.place, x.rounds, x.set]).zip(numbers) {
+        got.number(name, x);
+        want.number(name, n as i64);
+    }
+    got.buffer("close.values", &values, new.len());
+    want.buffer("close.values", &written(&before, &new), new.len());
+    kept("close.list", entries, &lent, &mut got, &mut want);
+    kept("close.held", held, &lent_held, &mut got, &mut want);
+    if vars <= FEW && matches!(x.answer, 0 | 20) {
+        let set = &values[GUARD..GUARD + vars as usize];
+        let said: Vec<u8> = match (rules::by_models(vars as usize, &rules::with_held(entries, held)), x.answer) {
+            // what is set is forced: its value, 1 false and 2 true, is that of status 3 and 2
+            (Some(known), 0) => known.iter().zip(set).map(|(&k, &v)| if v == 0 { 0 } else { 4 - k.clamp(1, 3) }).collect(),
+            (Some(_), _) => vec![3; set.len()],
+            (None, _) => set.to_vec(),
+        };
+        kept("close.models", &said, set, &mut got, &mut want);
+    }
+    (got, want)
+}
+
 fn why(r: &mut Random, g: &WhyGiven) -> (Seen, Seen) {
     let (mut got, mut want) = (Seen::default(), Seen::default());
     let marks_before = painted(r, g.marks_len, |x| x as u8);
@@ -346,11 +397,10 @@ fn lines(r: &mut Random, text: &[u8], variable: u32, room: usize) -> (Seen, Seen
     (got, want)
 }
 
-/// The first number that the rules say, and the difference of a case, if there is one; with a fault in what the library gave if one
-/// is named.
-pub fn judge(case: &Case, fault: Option<&str>) -> (i64, Option<String>) {
-    let mut r = Random::of_seed(case.paint);
-    let (mut got, want) = match &case.call {
+/// What the library gives for a call, and what the rules say; the paint of the buffers is of this seed.
+fn seen(paint: u64, call: &Call) -> (Seen, Seen) {
+    let mut r = Random::of_seed(paint);
+    match call {
         Call::Read { text, room } => read(&mut r, text, *room),
         &Call::Run { ref entries, vars, ref held, budget, chunk_limit, lengths: l } => {
             let (status_len, calls_len, ways_len, hints_len, log_len) = (l.status, l.calls, l.ways, l.hints, l.log);
@@ -363,11 +413,35 @@ pub fn judge(case: &Case, fault: Option<&str>) -> (i64, Option<String>) {
             why(&mut r, &WhyGiven { entries, vars, literal, budget, marks_len, values_len })
         }
         &Call::Setup { ref entries, vars, ref held, budget, values_len } => setup(&mut r, entries, vars, held, budget, values_len),
+        &Call::Close { ref entries, vars, ref held, values_len } => closing(&mut r, entries, vars, held, values_len),
         Call::Table { text, held, room } => table(&mut r, text, held, *room),
         Call::Lines { text, variable, room } => lines(&mut r, text, *variable, *room),
-    };
+    }
+}
+
+/// The same with its rules in another order: the library gives what the rules say of the first order, but for hints and rounds, and what they say of
+/// this one.
+fn other_order(case: &Case, fault: Option<&str>, first: &Seen) -> Option<String> {
+    let call = shuffle::shuffled(&mut Random::of_seed(!case.paint), &case.call)?;
+    let (mut got, want) = seen(case.paint, &call);
+    if let Some(fault) = fault.and_then(|fault| fault.strip_prefix(AGAIN)) {
+        got.put_fault(fault);
+    }
+    let what = got.difference(first, &BY_ORDER).or_else(|| got.difference(&want, &[]))?;
+    Some(format!("in another order {what}"))
+}
+
+/// The first number that the rules say, and the difference of a case, if there is one; with a fault in what the library gave if one
+/// is named.
+pub fn judge(case: &Case, fault: Option<&str>) -> (i64, Option<String>) {
+    let (mut got, want) = seen(case.paint, &case.call);
     if let Some(fault) = fault {
         got.put_fault(fault);
     }
-    (want.numbers[0].1, got.difference(&want))
+    let answer = want.numbers[0].1;
+    let mut difference = got.difference(&want, &[]);
+    if difference.is_none() && ANSWERED.contains(&answer) {
+        difference = other_order(case, fault, &want);
+    }
+    (answer, difference)
 }

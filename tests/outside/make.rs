@@ -118,10 +118,11 @@ fn edge_held() -> Vec<(Vec<i32>, u32, Vec<i32>)> {
     cases
 }
 
-/// A run, a setup, a witness and a table with these literals held.
+/// A run, a setup, a closing, a witness and a table with these literals held.
 fn in_all_calls(entries: &[i32], vars: u32, held: &[i32], calls: &mut Vec<Call>) {
     let (vs, log) = (vars.min(300) as usize, log_of(vars.min(300)));
     for (len, log_len) in [(vs, log), (vs + 3, log + 7), (vs.max(1) - 1, log), (0, 0)] {
+        calls.push(Call::Close { entries: entries.to_vec(), vars, held: held.to_vec(), values_len: len });
         for (budget, chunk_limit) in [(100, 2), (0, 1), (u32::MAX, 256), (100, 0)] {
             let (entries, held) = (entries.to_vec(), held.to_vec());
             let setup = Call::Setup { entries: entries.clone(), vars, held: held.clone(), budget, values_len: len };
@@ -169,8 +170,43 @@ fn edge_witnesses(list: &[i32], vars: u32, calls: &mut Vec<Call>) {
     }
 }
 
+/// Chains of implications, in file order and backwards, with their first literal a clause, held, or neither: from two rounds to as many as
+/// there may be.
+fn chains(calls: &mut Vec<Call>) {
+    for vars in [1, 2, 3, 17, 255, 256] {
+        let links: Vec<[i32; 3]> = (1..vars as i32).map(|v| [-v, v + 1, 0]).collect();
+        let backwards: Vec<[i32; 3]> = links.iter().rev().copied().collect();
+        let clash = [-1, -(vars as i32), 0];
+        for links in [links.concat(), backwards.concat()] {
+            for entries in [links.clone(), [&[1, 0], &links[..]].concat(), [&links[..], &[1, 0]].concat(), [&links[..], &clash].concat()] {
+                for held in [vec![], vec![1], vec![-(vars as i32)], vec![1, -(vars as i32)]] {
+                    calls.push(Call::Close { entries: entries.clone(), vars, held, values_len: vars as usize });
+                }
+            }
+        }
+    }
+}
+
+/// A closing of few or many variables, with enough clauses of one literal, or literals held, to set something.
+fn random_closing(r: &mut Random) -> Call {
+    let most = one_of(r, &[6, 10, 60, 256]);
+    let vars = r.below(most + 1) as u32;
+    let clauses = r.below(3 * u64::from(vars) + 3).min(MAX_CLAUSES as u64);
+    let mut entries = random_list(r, vars, clauses);
+    if entries.len() > MAX_ENTRIES {
+        entries.truncate(MAX_ENTRIES);
+        entries[MAX_ENTRIES - 1] = 0;
+    }
+    let count = r.below(2) * r.below(6);
+    let held = some_literals(r, vars, count);
+    let mut values_len = vars as usize;
+    stretch(r, &mut values_len);
+    Call::Close { entries, vars, held, values_len }
+}
+
 pub fn edges() -> Vec<Call> {
     let mut calls = Vec::new();
+    chains(&mut calls);
     for text in edge_texts() {
         in_all_rooms(&text, &mut calls);
     }
@@ -387,7 +423,7 @@ fn large(r: &mut Random) -> Call {
     exact(entries, vars, held, r.below(most) as u32, one_of(r, &LIMITS))
 }
 
-/// A run, or a setup, with one to three things changed so that it may be refused.
+/// A run, a setup or a closing with one to three things changed so that it may be refused.
 fn refused(r: &mut Random) -> Call {
     let vars = if r.below(4) == 0 { r.below(257) as u32 } else { r.below(6) as u32 };
     let clauses = r.below(8);
@@ -433,11 +469,12 @@ fn refused(r: &mut Random) -> Call {
             }
         }
     }
-    match call {
-        Call::Run { entries, vars, held, budget, lengths, .. } if r.below(4) == 0 => {
-            Call::Setup { entries, vars, held, budget, values_len: lengths.status }
-        }
-        run => run,
+    let Call::Run { entries, vars, held, budget, lengths, .. } = &call else { unreachable!("it is a run") };
+    let (entries, held, values_len) = (entries.clone(), held.clone(), lengths.status);
+    match r.below(8) {
+        0 | 1 => Call::Setup { entries, vars: *vars, held, budget: *budget, values_len },
+        2 => Call::Close { entries, vars: *vars, held, values_len },
+        _ => call,
     }
 }
 
@@ -551,6 +588,7 @@ pub fn random_calls(r: &mut Random) -> Vec<Call> {
         x if x < 16 => every_literal(r, &mut calls),
         x if x < 26 => calls.push(refused(r)),
         x if x < 32 => calls.push(refused_why(r)),
+        x if x < 36 => calls.push(random_closing(r)),
         _ => some_text(r, &mut calls),
     }
     calls

@@ -1,14 +1,17 @@
 //! The library, through its C interface, against the rules written a second time: every number that is returned and every element of
-//! every buffer, and forced and free from all models where there are few variables.
+//! every buffer, and forced and free from all models where there are few variables. What is not refused is run a second time with the same
+//! rules in another order, and all but hints and rounds must be the same.
 //!
 //!   outside FOLDER SEED N                 the cases of FOLDER, those at the edges, and N made from SEED
-//!   outside --break FAULT FOLDER SEED N   the same with a fault in what the library gave in those N: it must be noticed
+//!   outside --break FAULT FOLDER SEED N   those N alone, with a fault in what the library gave: it must be noticed
 //!   outside --faults                      the faults, a line each
 //!
 //! On a difference it prints the smallest case that it finds, writes it to target/outside-SEED.case if no fault was put in, and ends
 //! with 1. Put into FOLDER, that case is run first from then on. It also ends with 1 if some answer of the rules was never given.
 
 mod case;
+#[path = "../reference/close.rs"]
+mod close;
 mod judge;
 mod make;
 #[path = "../../rust/src/raw.rs"]
@@ -16,6 +19,7 @@ mod raw;
 #[path = "../reference/rules.rs"]
 mod rules;
 mod shrink;
+mod shuffle;
 #[path = "../reference/texts.rs"]
 mod texts;
 #[path = "../reference/why.rs"]
@@ -32,10 +36,11 @@ use judge::judge;
 use texts::Random;
 
 /// The answers that must have been given at least once.
-const ANSWERS: [(&str, &[i64]); 5] = [
+const ANSWERS: [(&str, &[i64]); 6] = [
     ("read", &[0, 1, 2, 3, 4, 5, 6, 7, 8, 9]),
     ("run", &[0, 1, 10, 11, 12, 13, 15, 20, 21]),
     ("setup", &[0, 1, 10, 11, 12, 13, 15, 20, 21]),
+    ("close", &[0, 1, 10, 11, 12, 13, 15, 20]),
     ("why", &[0, 1, 10, 11, 12, 13, 20, 21, 22]),
     ("witness", &[0, 1, 10, 11, 12, 14, 21]),
 ];
@@ -103,9 +108,9 @@ fn files_of(folder: &str) -> Result<Vec<(String, Case)>, String> {
 
 fn compare(fault: Option<&str>, folder: &str, seed: u64, n: u64) -> Result<bool, String> {
     let mut judged = Judged { seed, fault: None, given: BTreeMap::new() };
-    let files = files_of(folder)?;
-    let edges = make::edges();
-    println!("seed {seed}: {} cases of {folder}, {} at the edges, {n} at random", files.len(), edges.len());
+    // a fault is put into cases at random alone: the others need not be judged once more for each
+    let (files, edges) = if fault.is_none() { (files_of(folder)?, make::edges()) } else { (Vec::new(), Vec::new()) };
+    println!("library {}, seed {seed}: {} cases of {folder}, {} at the edges, {n} at random", raw::version(), files.len(), edges.len());
     for (name, case) in &files {
         if !judged.is_same(name, case) {
             return Ok(false);

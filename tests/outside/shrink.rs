@@ -122,6 +122,13 @@ fn smaller(call: &Call) -> Vec<Call> {
             all.extend((chunk_limit > 1).then(|| with(same(), budget, chunk_limit / 2)));
             all
         }
+        Call::Close { entries, vars, held, values_len } => {
+            let with = |(fewer, entries, held): Held| {
+                let values_len = values_len.saturating_sub((vars - fewer) as usize);
+                Call::Close { entries, vars: fewer, held, values_len }
+            };
+            lists(*vars, entries, held).into_iter().map(with).collect()
+        }
         Call::Setup { entries, vars, held, budget, values_len } => {
             let (vars, budget) = (*vars, *budget);
             let with = |(fewer, entries, held): Held, budget| {

@@ -1,6 +1,5 @@
-// The numbers that a program is started with, and the word on standard error where one is missing or is none. A number is written as in
-// a text: docs/RULES.md, "The text". No contract can say what a program is started with; what a word says is proved.
-use libc::STDERR_FILENO;
+// The numbers that a program is started with. A number is written as in a text: docs/RULES.md, "The text". No contract can say what a program
+// is started with; what a word says is proved.
 use reader::token::Token;
 use reader::token::token_of;
 use reader::token::value_of;
@@ -40,12 +39,4 @@ pub fn number_at(i: usize) -> Argument {
     let mut word = [0u8; 16];
     let n = os::arg(i, &mut word);
     number_of(&word[..n])
-}
-
-// Says on standard error what is wrong. Nothing stands on standard output then; a program has no exit status of its own to give.
-pub fn complain(program: &[u8], what: &[u8]) {
-    io::write_all(STDERR_FILENO, program);
-    io::write_all(STDERR_FILENO, b": ");
-    io::write_all(STDERR_FILENO, what);
-    io::write_all(STDERR_FILENO, b"\n");
 }

@@ -1,5 +1,6 @@
 pub mod FillLaws
 pub mod BitsLaws
+pub mod CountLaws
 pub mod PutLaws
 pub mod PieceLaws
 pub mod RoomLaws

@@ -4,3 +4,6 @@ pub mod HeldPromises
 pub mod WhyFit
 pub mod WhyPromises
 pub mod WitnessPromises
+pub mod CloseFit
+pub mod ClosePromises
+pub mod OrderPromises

@@ -1,7 +1,9 @@
-// The functions that C and Rust link (libigbezolum.a): the reader, the run, one valid setup, why a literal is forced, two models that differ on
-// a variable, and the printed table, each thin over its crate. They answer in the numbers of docs/RULES.md, "What comes back";
+// The functions that C and Rust link (libigbezolum.a): the reader, the run, one valid setup, what follows at once, why a literal is forced,
+// two models that differ on a variable, and the printed table, each thin over its crate. They answer in the numbers of docs/RULES.md, "What comes back";
 // include/igbezolum.h is the page for their callers.
+pub mod close;
 pub mod pair;
+pub mod version;
 pub mod why;
 
 ghost use mathlib.Core.Path.{_≡_};

@@ -1,7 +1,7 @@
 -- The order of visits does not matter: visits that set units in any order end as closing does, and so closing depends only on the
 -- clauses as sets of literals. Both hold because all of them compute the same: the bytes that follow from the start by the clauses.
 --
---   FalseMet, Visited, closing-visits     closing is one order of visits
+--   FalseMet, Visited, VisitedBy, round-visited, closing-visits     a round visits clauses, and closing is one order of visits
 --   Derived, derived-given, Refuted, Reached     what follows from the start, one literal after the other
 --   visits-derived, visits-refuted     what visits set follows, and a false clause that they meet is false by what follows
 --   derived-set, quiet-not-refuted     what follows is set in every quiet extension, and no clause is false there
@@ -46,7 +46,7 @@ Visited F vs clash = FalseMet F vs
 Visited F vs (closed ws) = Visits F vs ws
 
 module _ (F : List Clause) (vs : Values) where
-  abbrev VisitedBy : Round → Type 0
+  abbrev pub VisitedBy : Round → Type 0
   VisitedBy (under-way ws n) = Visits F vs ws
   VisitedBy at-false = FalseMet F vs
 
@@ -57,7 +57,7 @@ module _ (F : List Clause) (vs : Values) where
   met-visited cl i ws n v True e = v
   met-visited cl i ws n v Undecided e = v
 
-  round-visited : (cls : List Clause) → ((cl : Clause) → In cl cls → In cl F) → (r : Round) → VisitedBy r
+  pub round-visited : (cls : List Clause) → ((cl : Clause) → In cl cls → In cl F) → (r : Round) → VisitedBy r
       → VisitedBy (round cls r)
   round-visited [] h r v = v
   round-visited (cl ∷ cls) h r v = round-visited cls (λ d i. h d (List·Memᴰ·tail i)) (visit cl r) (visited r v)

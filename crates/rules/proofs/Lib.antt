@@ -20,12 +20,14 @@ pub mod MeaningLaws
 pub mod StateLaws
 pub mod ClosingLaws
 pub mod ClosingOrder
+pub mod RoundsLaws
 pub mod CallLaws
 pub mod SearchLaws
 pub mod UnitsLaws
 pub mod SearchOrder
 pub mod StatusLaws
 pub mod KnownLaws
+pub mod OrderLaws
 pub mod RunTrace
 pub mod RecordLaws
 pub mod RunNext
@@ -41,8 +43,11 @@ pub mod HeldTheorems
 pub mod AnswerLaws
 pub mod RefusedRuns
 pub mod SetupTheorems
+pub mod CloseTheorems
 pub mod BufferTheorems
+pub mod OrderTheorems
 pub mod WitnessTheorems
+pub mod SetupOrder
 pub mod TextTheorems
 pub mod ReadList
 pub mod PrintedLaws
@@ -57,6 +62,7 @@ pub mod WitnessCases
 pub mod HeldRuns
 pub mod AnswerHeld
 pub mod SetupCases
+pub mod CloseCases
 pub mod EdgeCases
 pub mod WhyLaws
 pub mod WhyTheorems

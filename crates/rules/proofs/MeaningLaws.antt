@@ -198,12 +198,12 @@ satisfies-same m F G p q = same-test (satisfies m F) (satisfies m G) (satisfies-
 pub covers-refl : (F : List Clause) → Covers F F
 covers-refl F = record { like = λ cl i. (cl, i, λ l. (λ x. x, λ x. x)) }
 
-pub covers-append : {F G : List Clause} (C : List Clause) → Covers F G → Covers (F ++ C) (G ++ C)
-covers-append {F} {G} C p = record { like = λ cl i. go cl (List·Memᴰ·append-cases F i) }
+pub covers-append : {F G C D : List Clause} → Covers F G → Covers C D → Covers (F ++ C) (G ++ D)
+covers-append {F} {G} {C} {D} p q = record { like = λ cl i. go cl (List·Memᴰ·append-cases F i) }
   where
-    go : (cl : Clause) → In cl F ⊎ In cl C → (d : Clause) × In d (G ++ C) × ((l : ℤ) → In l cl ↔ In l d)
-    go cl (inl i) = let (d, j, s) = p .like cl i in (d, Memᴰ·append-left C j, s)
-    go cl (inr i) = (cl, Memᴰ·append-right G i, λ l. (λ x. x, λ x. x))
+    go : (cl : Clause) → In cl F ⊎ In cl C → (d : Clause) × In d (G ++ D) × ((l : ℤ) → In l cl ↔ In l d)
+    go cl (inl i) = let (d, j, s) = p .like cl i in (d, Memᴰ·append-left D j, s)
+    go cl (inr i) = let (d, j, s) = q .like cl i in (d, Memᴰ·append-right G j, s)
 
 -- ---- no variable set, and how many are unset
 

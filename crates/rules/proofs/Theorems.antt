@@ -13,6 +13,8 @@ use Rattle.rules.specs.declared.Reading.{Reading}
 use Rattle.rules.specs.declared.Refusal.{Refusal}
 use Rattle.rules.specs.declared.RunAnswer.{RunAnswer}
 use Rattle.rules.specs.declared.Report.{Report}
+use Rattle.rules.specs.declared.CloseAnswer.{CloseAnswer}
+use Rattle.rules.specs.declared.CloseReport.{CloseReport}
 use Rattle.rules.specs.declared.WhyAnswer.{WhyAnswer}
 use Rattle.rules.specs.declared.WhyReport.{WhyReport}
 use Rattle.rules.specs.declared.ClauseState.the-variants.{False}
@@ -23,8 +25,9 @@ use Rattle.rules.specs.Reading.{readingOf, filled, entriesAfter, Reads}
 use Rattle.rules.specs.Grammar.{NoLf, TokenEnd, WithHeader, Dimacs}
 use Rattle.rules.specs.Refusals.{Refuses}
 use Rattle.rules.specs.Plain.{decimal, plain, entriesOf, Within}
-use Rattle.rules.specs.Meaning.{Clause, Values, valueAt, varOf, negated, indexOf, clauses, satisfies, LitUpTo, Model, Proper, bitOf}
-use Rattle.rules.specs.Closing.{stateOf, under-way, round, again, closing, clash, closed}
+use Rattle.rules.specs.Meaning.{Clause, Values, valueAt, varOf, negated, indexOf, clauses, satisfies, isTrue, LitUpTo, Model, Proper, bitOf}
+use Rattle.rules.specs.Closing.{stateOf, under-way, round, again, unsets, closing, clash, closed}
+use Rattle.rules.specs.Rounds.{oneMore, rounds}
 use Rattle.rules.specs.Visits.{Visits, Quiet}
 use Rattle.rules.specs.Search.{model, no-model, triesOf, onClosed, callOn}
 use Rattle.rules.specs.Units.{forcedClauses}
@@ -35,16 +38,19 @@ use Rattle.rules.specs.Trace.{Takes, Reached, Ends, Leaves, withLimits}
 use Rattle.rules.specs.Records.{openRecord, recordAt, statusesOf, callsOf, waysOf}
 use Rattle.rules.specs.Recorded.{Recorded, Counted, RecordsIn}
 use Rattle.rules.specs.Witness.{witnessAt, PairAt, FreeIn, Asked, askedTask, askedRefusal, askedReport, literalsFrom, firstAfter, witnessAfter}
-use Rattle.rules.specs.Witness.{Witnesses, lentFor}
+use Rattle.rules.specs.Witness.{asked, Witnesses, lentFor}
 use Rattle.rules.specs.WitnessPrinted.{witnessAsked, witnessTextOf, maxWitness, PrintsWitness}
 use Rattle.rules.specs.Hints.{hintsOf, HeldBy, FirstFalse}
-use Rattle.rules.specs.Answer.{Given, Buffers, logLength, refusalOf, taskOf, reportOfRun, reportOf, statusAfter, callsAfter, waysAfter, hintsAfter}
+use Rattle.rules.specs.Answer.{Given, Buffers, given, logLength, refusalOf, taskOf, reportOfRun, reportOf, statusAfter, callsAfter, waysAfter, hintsAfter}
 use Rattle.rules.specs.Answer.{logOfRows, logAfter}
 use Rattle.rules.specs.Answer.{isFree, isForced, isEnded, plainRefusal, plainTask, Runs}
 use Rattle.rules.specs.Held.{withHeld, listWith, holding, Holdable, HeldModel}
+use Rattle.rules.specs.Order.{SameRules, SameHeld, withRules, SameTable}
 use Rattle.rules.specs.RunRefusals.{Accepted, RunRefuses}
 use Rattle.rules.specs.Setup.{SetupGiven, setupGiven, setupRefusal, setupRun, setupCall, setupAnswer, setupReport, setupValues}
 use Rattle.rules.specs.Setup.{setupReportOf, setupValuesAfter, SetsUp, FirstSetup}
+use Rattle.rules.specs.Close.{CloseGiven, closeSetup, closeRefusal, closedSet, closeRounds, setBy, closeReport, closeValues, closeReportOf}
+use Rattle.rules.specs.Close.{closeValuesAfter, Closes, SameSets}
 use Rattle.rules.specs.Log.{LogOf}
 use Rattle.rules.specs.Printed.{forcedWord, freeWord, onWord, offWord, heldWord, refusedLine, tableOfRun, tableOf, maxTable, Prints}
 use Rattle.rules.specs.Tables.{lineAt, SaysAnswer, tableTask}
@@ -52,6 +58,7 @@ use Rattle.rules.specs.Why.{Question, marked, why, FalseModel, WhyGiven,
 use Rattle.rules.specs.WhyPrinted.{whyAsked, whyTextOf, maxWhy, PrintsWhy}
 use Rattle.rules.proofs.ClosingLaws as closing-laws
 use Rattle.rules.proofs.ClosingOrder as closing-order
+use Rattle.rules.proofs.RoundsLaws as rounds-laws
 use Rattle.rules.proofs.SearchLaws as search-laws
 use Rattle.rules.proofs.CallLaws as call-laws
 use Rattle.rules.proofs.RunTrace as run-trace
@@ -60,6 +67,7 @@ use Rattle.rules.proofs.RunTheorems as run-theorems
 use Rattle.rules.proofs.CallTheorems as call-theorems
 use Rattle.rules.proofs.RefusedRuns as refused-runs
 use Rattle.rules.proofs.BufferTheorems as buffers
+use Rattle.rules.proofs.OrderTheorems as order-theorems
 use Rattle.rules.proofs.ReadingTheorems as reading
 use Rattle.rules.proofs.TextTheorems as texts
 use Rattle.rules.proofs.CommentTheorems as comments
@@ -84,7 +92,10 @@ use Rattle.rules.proofs.HeldLaws as held-laws
 use Rattle.rules.proofs.HeldTheorems as held-theorems
 use Rattle.rules.proofs.HeldRuns as held-runs
 use Rattle.rules.proofs.SetupTheorems as setups
+use Rattle.rules.proofs.SetupOrder as setup-order
 use Rattle.rules.proofs.SetupCases as setup-runs
+use Rattle.rules.proofs.CloseTheorems as closings
+use Rattle.rules.proofs.CloseCases as closing-cases
 use Rattle.rules.proofs.AnswerHeld as chosen-cases
 
 -- ---- the reader
@@ -164,6 +175,27 @@ closing-by-rounds = closing-laws.closing-next
 -- A closed set leaves nothing to do.
 pub closed-is-quiet : (F : List Clause) (vs ws : Values) → closing F vs ≡ closed ws → Quiet ws F
 closed-is-quiet = closing-laws.closing-quiet
+
+-- The rounds of a closing are one and, if it set anything, those of closing again.
+pub rounds-by-round : (F : List Clause) (vs : Values) → rounds F vs ≡ oneMore (round F (under-way vs 0)) (λ ws. rounds F ws)
+rounds-by-round = rounds-laws.rounds-next
+
+-- They are at most one more than the variables set in that closing;
+pub rounds-within : (F : List Clause) (vs ws : Values) → closing F vs ≡ closed ws → rounds F vs + unsets ws ≤ suc (unsets vs)
+rounds-within = rounds-laws.rounds-closed
+
+-- after a clash than those set by visits that have met a false clause.
+pub rounds-within-clash : (F : List Clause) (vs : Values) → closing F vs ≡ clash
+    → (ws : Values) × (cl : Clause) × Visits F vs ws × In cl F × (stateOf ws cl ≡ False) × (rounds F vs + unsets ws ≤ suc (unsets vs))
+rounds-within-clash F vs e =
+    let (w, h) = rounds-laws.rounds-clash F vs e in (w .values, w .clause, w .visits, w .is-in, w .is-false, h)
+
+-- With no clauses it is one round, and there is always one.
+pub rounds-without-clauses : (vs : Values) → rounds [] vs ≡ 1
+rounds-without-clauses = rounds-laws.rounds-nil
+
+pub rounds-some : (F : List Clause) (vs : Values) → 1 ≤ rounds F vs
+rounds-some = rounds-laws.rounds-some
 
 -- ---- the search
 
@@ -430,6 +462,39 @@ pub held-list : (es held : List ℤ) → isEnded es ≡ true → ((l : ℤ) → 
     → clauses (listWith es held) ≡ withHeld (clauses es) held
 held-list = held-laws.clauses-held
 
+-- ---- the order of the rules
+
+-- Two runs with the same V, budget and chunk limit, whose clauses are the same as sets of sets of literals and whose held literals are the same
+-- as sets, are one run: answer, tries, statuses, records, rows, and the models found.
+pub run-any-order : (k : Task) (F : List Clause) (held other : List ℤ) → SameRules (k .formula) F → SameHeld held other
+    → run (holding k held) ≡ run (holding (withRules k F) other)
+run-any-order = order-theorems.run-any-order
+
+-- So two lists that are accepted get the same numbers, statuses, calls, ways and log. The hints name clauses, and may differ.
+pub runs-any-order : {es ds : List ℤ} {vars : ℕ} {held other : List ℤ} {budget limit : ℕ} {lent lent′ after after′ : Buffers} {r r′ : Report}
+    → Runs (given es vars held budget limit lent) r after → Runs (given ds vars other budget limit lent′) r′ after′
+    → Accepted (given es vars held budget limit lent) → Accepted (given ds vars other budget limit lent′)
+    → SameRules (clauses es) (clauses ds) → SameHeld held other → (r ≡ r′) × SameTable vars after after′
+runs-any-order = order-theorems.runs-any-order
+
+-- So do two setups: the same numbers and the same values,
+pub setups-any-order : {es ds : List ℤ} {vars : ℕ} {held other : List ℤ} {budget : ℕ} {lent lent′ after after′ : List ℕ} {r r′ : Report}
+    → SetsUp (setupGiven es vars held budget lent) r after → SetsUp (setupGiven ds vars other budget lent′) r′ after′
+    → Accepted (setupRun (setupGiven es vars held budget lent)) → Accepted (setupRun (setupGiven ds vars other budget lent′))
+    → SameRules (clauses es) (clauses ds) → SameHeld held other → (r ≡ r′) × (take vars after ≡ take vars after′)
+setups-any-order = setup-order.setups-any-order
+
+-- and two witnesses of a free variable: the same numbers and the same two models.
+pub witnesses-any-order : {es ds : List ℤ} {vars : ℕ} {held other : List ℤ} {budget limit variable : ℕ}
+    {x x′ y y′ first first′ witness witness′ : List ℤ} {r r′ : Report}
+    → Witnesses (asked es vars held budget limit variable x y) r first witness
+    → Witnesses (asked ds vars other budget limit variable x′ y′) r′ first′ witness′
+    → Accepted (lentFor (asked es vars held budget limit variable x y)) → Accepted (lentFor (asked ds vars other budget limit variable x′ y′))
+    → SameRules (clauses es) (clauses ds) → SameHeld held other
+    → FreeIn vars (run (askedTask (asked es vars held budget limit variable x y)) .progress) variable
+    → (r ≡ r′) × (take vars first ≡ take vars first′) × (take vars witness ≡ take vars witness′)
+witnesses-any-order = setup-order.witnesses-any-order
+
 -- ---- one valid setup
 
 -- It is the first call of a run on the same formula with the same literals held and the same budget.
@@ -469,6 +534,50 @@ pub setup-writes : (g : SetupGiven) → Accepted (setupRun g)
     × (take (g .vars) (setupValuesAfter g) ≡ setupValues (g .vars) (setupCall g))
     × (drop (g .vars) (setupValuesAfter g) ≡ drop (g .vars) (g .values))
 setup-writes = setups.setup-written
+
+-- ---- what follows at once
+
+-- A clash means that no model has the held literals.
+pub close-clash : (g : CloseGiven) → closedSet g ≡ clash → NoModel (g .vars) (withHeld (clauses (g .entries)) (g .held))
+close-clash = closings.close-none
+
+-- Every literal that is set is in all models that have them,
+pub close-in-all : (g : CloseGiven) (ws : Values) → closedSet g ≡ closed ws → (l : ℤ) → isTrue ws l ≡ true
+    → (m : Values) → Model (g .vars) (withHeld (clauses (g .entries)) (g .held)) m → isTrue m l ≡ true
+close-in-all = closings.close-in-all
+
+-- and the held literals are set.
+pub close-held : (g : CloseGiven) (ws : Values) → closedSet g ≡ closed ws → (l : ℤ) → In l (g .held) → isTrue ws l ≡ true
+close-held = closings.close-held
+
+-- Clauses and held literals in another order, or repeated, close alike.
+pub close-any-order : {g h : CloseGiven} → SameSets g h → closedSet g ≡ closedSet h
+close-any-order = closings.close-order
+
+-- Rounds are at most one more than the variables that are set, and always at most V + 1.
+pub close-rounds : (g : CloseGiven) (ws : Values) → closedSet g ≡ closed ws → closeRounds g ≤ suc (setBy (closedSet g))
+close-rounds = closings.close-rounds
+
+pub close-rounds-most : (g : CloseGiven) → closeRounds g ≤ suc (g .vars)
+close-rounds-most = closings.close-most
+
+-- Each refusal number and place is given exactly as a run gives it that has the values in the place of its statuses.
+pub close-refusals : (g : CloseGiven) (a : Refusal) → (closeRefusal g ≡ some a) ↔ RunRefuses (setupRun (closeSetup g)) a
+close-refusals = closings.close-refused
+
+pub close-acceptance : (g : CloseGiven) → (closeRefusal g ≡ none) ↔ Accepted (setupRun (closeSetup g))
+close-acceptance = closings.close-accepted
+
+-- What is refused returns zeros and writes nothing; otherwise the first V values are written and the rest stays.
+pub close-refused-nothing : (g : CloseGiven) (a : Refusal) → RunRefuses (setupRun (closeSetup g)) a
+    → (closeReportOf g ≡ record { answer = CloseAnswer.Refused a; rounds = 0; set = 0 }) × (closeValuesAfter g ≡ g .values)
+close-refused-nothing = closings.close-nothing
+
+pub close-writes : (g : CloseGiven) → Accepted (setupRun (closeSetup g))
+    → (closeReportOf g ≡ closeReport (closedSet g) (closeRounds g))
+    × (take (g .vars) (closeValuesAfter g) ≡ closeValues (g .vars) (closedSet g))
+    × (drop (g .vars) (closeValuesAfter g) ≡ drop (g .vars) (g .values))
+close-writes = closings.close-written
 
 -- ---- the printed table
 
@@ -636,6 +745,10 @@ held-runs-cases = chosen-cases.held-cases
 pub setup-cases : all setup-runs.passes setup-runs.setupCases ≡ true
 setup-cases = setup-runs.setup-cases
 
+-- What follows at once from small formulas, with the rounds.
+pub close-cases : all closing-cases.passes closing-cases.closeCases ≡ true
+close-cases = closing-cases.close-cases
+
 -- The small texts, with number and place.
 pub small-texts : all reading.passes reading.smallTexts ≡ true
 small-texts = reading.small-texts
@@ -678,6 +791,13 @@ witnesses-unique = witness-theorems.witnesses-unique
 -- One result and one buffer satisfy the contract of one valid setup.
 pub sets-up-unique : {g : SetupGiven} {r r′ : Report} {b b′ : List ℕ} → SetsUp g r b → SetsUp g r′ b′ → (r ≡ r′) × (b ≡ b′)
 sets-up-unique = setups.sets-up-unique
+
+-- One result and one buffer satisfy the contract of what follows at once.
+pub closes-exists : (g : CloseGiven) → Closes g (closeReportOf g) (closeValuesAfter g)
+closes-exists = closings.closes-exists
+
+pub closes-unique : {g : CloseGiven} {r r′ : CloseReport} {b b′ : List ℕ} → Closes g r b → Closes g r′ b′ → (r ≡ r′) × (b ≡ b′)
+closes-unique = closings.closes-unique
 
 -- One number and one buffer satisfy the printed table's contract.
 pub prints-unique : {text : List ℕ} {held : List ℤ} {before : List ℕ} {n n′ : ℕ} {b b′ : List ℕ}

@@ -7,6 +7,7 @@ pub mod Refusals
 pub mod Plain
 pub mod Meaning
 pub mod Closing
+pub mod Rounds
 pub mod Visits
 pub mod Search
 pub mod Units
@@ -20,10 +21,12 @@ pub mod RunRefusals
 pub mod Log
 pub mod Recorded
 pub mod Models
+pub mod Order
 pub mod Witness
 pub mod Printed
 pub mod Tables
 pub mod Setup
+pub mod Close
 pub mod Why
 pub mod ModelLine
 pub mod WhyPrinted

@@ -15,6 +15,11 @@ indexIf true zero rest = 0
 indexIf true (suc n) rest = suc (rest n)
 indexIf false n rest = suc (rest n)
 
+-- a mark, or the value of a variable, that is not 0
+abbrev pub isSet : ℕ → Bool
+isSet zero = false
+isSet (suc n) = true
+
 module _ {A : Type 0} where
   -- x is an element of xs
   abbrev pub In : A → List A → Type 0

@@ -158,3 +158,19 @@ pub struct WhyReport {
     pub calls: u32,
     pub tries: u32,
 }
+
+// The answer of a closing. Its number and place are closeNumber and closePlace.
+pub enum CloseAnswer {
+    // The closed set is written.
+    Closed,
+    // A clause became false.
+    Clash,
+    Refused(Refusal),
+}
+
+// What a closing returns: its rounds, and how many variables it set.
+pub struct CloseReport {
+    pub answer: CloseAnswer,
+    pub rounds: u32,
+    pub set: u32,
+}

@@ -2,6 +2,7 @@
 ghost use mathlib.Core.Path.{_≡_};
 ghost use Rattle.rules.specs.Numbers.{outcomeNumber, wayNumber, readNumber, readPlace, refusalNumber, refusalPlace, runNumber, runPlace};
 ghost use Rattle.rules.specs.Why.{whyNumber, whyPlace};
+ghost use Rattle.rules.specs.Close.{closeNumber, closePlace};
 
 // The log's second column.
 // Rules out: 2 for a stopped call; 0 for a model.
@@ -149,5 +150,29 @@ pub fn why_place(answer: crate::WhyAnswer) -> usize
         crate::WhyAnswer::Stopped => 0,
         crate::WhyAnswer::NotForced => 0,
         crate::WhyAnswer::Refused(refusal) => refusal_place(refusal),
+    }
+}
+
+// The number of a closing's answer.
+// Rules out: 0 for a clash; 20 for a closed set.
+pub fn close_number(answer: crate::CloseAnswer) -> u32
+    ensures { λ r. ⌜ r ≡ closeNumber answer ⌝ }
+{
+    match answer {
+        crate::CloseAnswer::Closed => 0,
+        crate::CloseAnswer::Clash => 20,
+        crate::CloseAnswer::Refused(refusal) => refusal_number(refusal),
+    }
+}
+
+// Its place.
+// Rules out: 0 for a list refused at index 2; 1 for a clash.
+pub fn close_place(answer: crate::CloseAnswer) -> usize
+    ensures { λ r. ⌜ r ≡ closePlace answer ⌝ }
+{
+    match answer {
+        crate::CloseAnswer::Closed => 0,
+        crate::CloseAnswer::Clash => 0,
+        crate::CloseAnswer::Refused(refusal) => refusal_place(refusal),
     }
 }

@@ -6,6 +6,7 @@ use lib.IntN.{ℤ}
 use lib.ListN.{length}
 use Rattle.rules.specs.Meaning.{Clause, Values, clauses}
 use Rattle.rules.specs.Closing.{Round, under-way, at-false, round, Closed, clash, closed, closing}
+use Rattle.rules.specs.Rounds.{rounds}
 use Rattle.formula.specs.Starts.{callClauses}
 use Rattle.formula.specs.Clauses.{ClauseUpTo}
 use Rattle.formula.specs.Formula.{Formula}
@@ -31,9 +32,18 @@ RoundsTo es con total vs r after = round (callClauses es con total) (under-way v
 
 -- a closing's end with the values that it leaves: after a clash they do not count
 abbrev pub closedOf : Closing → Values → Closed
-closedOf Clash vs = clash
-closedOf AllClosed vs = closed vs
+closedOf (Clash n) vs = clash
+closedOf (AllClosed n) vs = closed vs
 
--- closing under them, from vs, ended with r and left the values `after`
+abbrev pub roundsOf : Closing → ℕ
+roundsOf (Clash n) = n
+roundsOf (AllClosed n) = n
+
+-- closing under the clauses F, from vs, ended with r and left the values `after`
+pub record ClosesBy (F : List Clause) (vs : Values) (r : Closing) (after : Values) : Type 0 where
+  pub end-is : closing F vs ≡ closedOf r after
+  pub rounds-are : rounds F vs ≡ roundsOf r
+
+-- closing under the first `total` clauses of a call
 abbrev pub ClosesTo : List ℤ → Clause → ℕ → Values → Closing → Values → Type 0
-ClosesTo es con total vs r after = closing (callClauses es con total) vs ≡ closedOf r after
+ClosesTo es con total vs r after = ClosesBy (callClauses es con total) vs r after

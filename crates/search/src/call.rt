@@ -55,7 +55,7 @@ pub fn go_on<'a>(
     let n = values.len();
     let mut saved = [0u8; rules::MAX_VARS as usize];
     copy_first(values, &mut saved, n);
-    if let Closing::Clash = close(entries, starts, constraint, total, values) {
+    if let Closing::Clash(_) = close(entries, starts, constraint, total, values) {
         take_back(values, &saved, Outcome::NoModel);
         return CallEnd {
             outcome: Outcome::NoModel,

@@ -14,10 +14,10 @@ pub enum RoundEnd {
     UnderWay(u32),
 }
 
-// What closing ends with: a clash, or the closed set in the lent values.
+// What closing ends with: a clash, or the closed set in the lent values; and in how many rounds.
 pub enum Closing {
-    Clash,
-    Closed,
+    Clash(u32),
+    Closed(u32),
 }
 
 // One round over clauses 1 to `total`.
@@ -53,8 +53,8 @@ pub fn round<'a>(
     RoundEnd::UnderWay(set)
 }
 
-// RoundsTo until one sets nothing, or meets a false clause. After a clash the values are somewhere between.
-// Rules out: a clash as closed; a set that is not closed.
+// Rounds until one sets nothing, or meets a false clause; that last one counts. After a clash the values are somewhere between.
+// Rules out: a clash as closed; the last round not counted.
 // Required of: go_on, which requires it too.
 pub fn close<'a>(
     entries: &'a [i32],
@@ -66,14 +66,16 @@ pub fn close<'a>(
     requires { ⌜ CallOver (length (now values)) (now entries) (now starts) (now constraint) total ⌝ }
     ensures { λ r. ⌜ ClosesTo (now (entries .entry)) (now (constraint .entry)) total (now (values .entry)) r (now (values .exit)) ⌝ }
 {
+    let mut rounds = 0;
     loop {
+        rounds += 1;
         match round(entries, starts, constraint, total, values) {
             RoundEnd::AtFalse => {
-                return Closing::Clash;
+                return Closing::Clash(rounds);
             }
             RoundEnd::UnderWay(set) => {
                 if set == 0 {
-                    return Closing::Closed;
+                    return Closing::Closed(rounds);
                 }
             }
         }

@@ -1,23 +1,27 @@
 // The program that shows two setups which differ on a free switch (docs/RULES.md, "The printed witness"): a variable as its argument, a
 // text on standard input. One byte more than a text may have is kept, so that a longer one is refused with 2.
 use arguments::Argument;
-use arguments::complain;
 use arguments::number_at;
 use formula::lit::sign;
 use formula::lit::var_of;
-use libc::STDIN_FILENO;
-use libc::STDOUT_FILENO;
 use rules::Lit;
+use streams::complain;
+use streams::read_input;
+use streams::write_output;
 
 fn write_answer(text: &[u8], variable: u32) {
     let mut out = [0u8; rules::MAX_WITNESS];
     let n = witness_printed::print(text, variable, &mut out);
-    io::write_all(STDOUT_FILENO, &out[..n]);
+    write_output(&out[..n]);
 }
 
 fn answer(variable: u32) {
     let mut text = [0u8; rules::MAX_TEXT + 1];
-    let n = io::read_full(STDIN_FILENO, &mut text);
+    let input = read_input(&mut text);
+    if input.failed {
+        return;
+    }
+    let n = input.count;
     write_answer(&text[..n], variable);
 }
 

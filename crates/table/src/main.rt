@@ -1,9 +1,9 @@
 // The table program (docs/RULES.md, "The printed table"): reads a text from standard input and prints its table, with the literals held that it is
 // started with. One byte more than a text may have is kept, and one literal more than may be held, so that more is refused with 2 and with 15.
 use arguments::Argument;
-use arguments::complain;
 use arguments::number_at;
-use libc::STDIN_FILENO;
+use streams::complain;
+use streams::read_input;
 ghost use Prim.Native.Nat.{_≤_};
 ghost use lib.ListN.{length};
 ghost use Rattle.table.specs.Words.{Kept};
@@ -49,7 +49,11 @@ fn read_held(held: &mut [i32]) -> Words
 
 fn show(held: &[i32]) {
     let mut text = [0u8; rules::MAX_TEXT + 1];
-    let n = io::read_full(STDIN_FILENO, &mut text);
+    let input = read_input(&mut text);
+    if input.failed {
+        return;
+    }
+    let n = input.count;
     output::write_table(&text[..n], held);
 }
 

@@ -3,8 +3,6 @@
 --   why-line          the fields of the first line
 --   spaced-signed     a literal is its variable's number with its sign
 --   clause-line       the fields of a clause's line
---   one-more          a mark that is not 0 counts
---   Counting, counting-start, counting-step, counting-done     the marks that are not 0
 --   length-marked     as many clauses are kept as marks are not 0
 --   line-gone, line-kept      the line of a clause by its mark
 --   kept-at           the piece of the clause at an index
@@ -12,16 +10,15 @@
 -- Assumes nothing.
 use mathlib.Core.Path.{_≡_, refl, sym, ap}
 use mathlib.Core.Logic.{_≢_}
-use mathlib.Core.Bool.{Bool, true, false, not}
+use mathlib.Core.Bool.{not}
 use mathlib.Core.List.{List, [], _∷_, _++_, append-assoc}
-use Prim.Native.Nat.{ℕ, zero, suc, _+_, _≤_, _<_}
+use Prim.Native.Nat.{ℕ, zero, suc, _+_, _<_}
 use native.Mathlib.Omega.{arith}
 use native.Mathlib.Numerals.{add-one}
 use lib.IntN.{ℤ, pos, negsuc}
-use lib.ListN.{length, getD, take, drop, drop-of-length-le}
-use lib.Seq.{drop-cons}
+use lib.ListN.{length, getD, take}
 use Rattle.rules.specs.declared.WhyReport.{WhyReport}
-use Rattle.rules.specs.Lists.{count, countIf, pieces}
+use Rattle.rules.specs.Lists.{isSet, count, pieces}
 use Rattle.rules.specs.Meaning.{Clause, varOf, clauses}
 use Rattle.rules.specs.Plain.{decimal}
 use Rattle.rules.specs.Printed.{answerWord, callsWord, triesWord}
@@ -32,7 +29,6 @@ use Rattle.lines.specs.Lines.{countFields}
 use Rattle.formula.specs.Literals.{isPositive}
 use Rattle.formula.specs.Starts.{clauseAt}
 use Rattle.formula.proofs.ClauseLaws.{clauseAt-formula}
-use Rattle.why_printed.specs.Reason.{isKept}
 
 -- ---- fields
 
@@ -53,32 +49,7 @@ clause-line n cl = simp append-assoc refl
 
 -- ---- the marks that are not 0
 
--- those before i, and with the others all
-pub record Counting (ms : List ℕ) (i kept : ℕ) : Type 0 where
-  pub within : i ≤ length ms
-  pub fewer : kept ≤ i
-  pub rest : kept + count isKept (drop i ms) ≡ count isKept ms
-
-pub one-more : (mark n : ℕ) → mark ≢ 0 → n + 1 ≡ countIf (isKept mark) n
-one-more zero n h = absurd (h refl)
-one-more (suc mark) n h = add-one n
-
-pub counting-start : (ms : List ℕ) → Counting ms 0 0
-counting-start ms = record { within = omega arith; fewer = omega arith; rest = omega arith }
-
-pub counting-step : {ms : List ℕ} {i kept kept′ : ℕ} → Counting ms i kept → i < length ms → kept′ ≡ countIf (isKept (getD ms i 0)) kept
-    → Counting ms (i + 1) kept′
-counting-step {ms} {i} {kept} {kept′} w h e =
-    rw add-one (go (isKept (getD ms i 0)) e (sym (ap (count isKept) (drop-cons ms i 0 h))))
-  where
-    go : (b : Bool) → kept′ ≡ countIf b kept → countIf b (count isKept (drop (suc i) ms)) ≡ count isKept (drop i ms) → Counting ms (suc i) kept′
-    go true e f = record { within = omega arith; fewer = omega (arith, w .fewer, e); rest = omega (arith, w .rest, e, f) }
-    go false e f = record { within = omega arith; fewer = omega (arith, w .fewer, e); rest = omega (arith, w .rest, e, f) }
-
-pub counting-done : {ms : List ℕ} {i kept : ℕ} → Counting ms i kept → length ms ≤ i → kept ≡ count isKept ms
-counting-done {ms} {i} {kept} w h = omega (arith, w .rest, ap (count isKept) (drop-of-length-le ms h))
-
-pub length-marked : (ms : List ℕ) (F : List Clause) → length (marked ms F) ≡ count isKept (take (length F) ms)
+pub length-marked : (ms : List ℕ) (F : List Clause) → length (marked ms F) ≡ count isSet (take (length F) ms)
 length-marked [] [] = refl
 length-marked [] (cl ∷ F) = refl
 length-marked (m ∷ ms) [] = refl

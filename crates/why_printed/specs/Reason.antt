@@ -1,8 +1,7 @@
 -- What an answer is put from: the clauses that are kept, and an entry list that was asked. Assumes nothing.
 use mathlib.Core.Path.{_≡_}
-use mathlib.Core.Bool.{Bool, true, false}
 use mathlib.Core.List.{List, _++_}
-use Prim.Native.Nat.{ℕ, zero, suc, _≤_, _<_, _^_}
+use Prim.Native.Nat.{ℕ, suc, _≤_, _<_, _^_}
 use lib.IntN.{ℤ}
 use lib.ListN.{length, drop}
 use Rattle.rules.specs.declared.WhyReport.{WhyReport}
@@ -13,10 +12,6 @@ use Rattle.rules.specs.Why.{WhyGiven, marked, marksAfter, whyValuesAfter}
 use Rattle.rules.specs.WhyPrinted.{whyLine, keptLines, whyTextOfReport, whyTextOfList, whyTextOf}
 use Rattle.buffers.specs.Put.{Room, Put}
 use Rattle.formula.specs.Starts.{startsOf}
-
-abbrev pub isKept : ℕ → Bool
-isKept zero = false
-isKept (suc mark) = true
 
 -- the clauses of an entry list by number, with a mark for each
 pub record ClausesReady (es : List ℤ) (starts marks : List ℕ) : Type 0 where

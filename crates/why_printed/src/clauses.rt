@@ -1,48 +1,18 @@
-// The clauses that are kept: how many, and a line for each.
-ghost use mathlib.Core.Path.{_≡_};
+// The clauses that are kept, a line for each.
 ghost use mathlib.Core.List.{[]};
 ghost use Prim.Native.Nat.{_<_};
 ghost use lib.ListN.{length};
-ghost use Rattle.rules.specs.Lists.{count, countIf};
 ghost use Rattle.rules.specs.Meaning.{clauses};
 ghost use Rattle.rules.specs.WhyPrinted.{lineIf, keptLines};
 ghost use Rattle.buffers.specs.Put.{Put, Room};
 ghost use Rattle.formula.specs.Starts.{Lookup, clauseAt};
-ghost use Rattle.why_printed.specs.Reason.{isKept, ClausesReady, ReasonReady, ReasonPut};
+ghost use Rattle.why_printed.specs.Reason.{ClausesReady, ReasonReady, ReasonPut};
 use crate::line::put_clause;
 use crate::line::put_first;
+use buffers::count::count_set;
 use formula::starts::find_starts;
 use formula::view::clause_in;
 use rules::ClauseNo;
-
-// One more where a mark is not 0.
-// Rules out: one more for a mark of 0; two more.
-// Required of: count_kept, with fewer marks than that.
-fn counted_if(n: usize, mark: u8) -> usize
-    requires { ⌜ n < 65536 ⌝ }
-    ensures { λ r. ⌜ r ≡ countIf (isKept mark) n ⌝ }
-{
-    if mark == 0 {
-        return n;
-    }
-    n + 1
-}
-
-// How many marks are not 0.
-// Rules out: the clauses that went; one too few.
-// Required of: put_reason, with a mark for each clause.
-fn count_kept(marks: &[u8]) -> usize
-    requires { ⌜ length (now marks) < 65536 ⌝ }
-    ensures { λ r. ⌜ r ≡ count isKept (now (marks .entry)) ⌝ }
-{
-    let mut kept: usize = 0;
-    let mut i: usize = 0;
-    while i < marks.len() {
-        kept = counted_if(kept, marks[i]);
-        i += 1;
-    }
-    kept
-}
 
 // The line of clause n if its mark is not 0.
 // Rules out: a line for a clause that went; the line of the clause before.
@@ -98,7 +68,7 @@ pub fn put_reason(
         r (now (out .exit)) (now (starts .exit)) ⌝ }
 {
     let count = find_starts(entries, starts);
-    let kept = count_kept(&marks[..count]);
+    let kept = count_set(&marks[..count]);
     let next = put_first(out, 0, report, kept);
     put_clauses(out, next, entries, &starts[..count + 1], marks)
 }

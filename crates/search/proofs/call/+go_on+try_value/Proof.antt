@@ -173,7 +173,7 @@ module _ (t : ℕ) where
   second-len c = c .try-value2 .kept .1 .1 .1 .1 .0 ∙ first-len (first-at c)
 
   closing-is : (c : Closes) {r : Closing} → c .close .result ≡ r → closing (clauses c) (values c) ≡ closedOf r (closed-values c)
-  closing-is c e = c .close .ensures ∙ ap (λ (r : Closing). closedOf r (closed-values c)) e
+  closing-is c e = c .close .ensures .end-is ∙ ap (λ (r : Closing). closedOf r (closed-values c)) e
 
   -- a variable was chosen, so that there was no clash
   closed-is : (c : Chooses) → closing (clauses (closed-at c)) (values (closed-at c)) ≡ closed (closed-values (closed-at c))

@@ -1,8 +1,10 @@
 -- `search::close::close` meets its contract. The invariant of its loop: closing from the values as they are comes to what it comes to
--- from those at entry. The measure is the number of unset variables. Assumes nothing.
+-- from those at entry, and the rounds made and those left are as many. The measure is the number of unset variables. Assumes nothing.
 use mathlib.Core.Path.{_≡_, _∙_, ap}
+use native.Mathlib.Omega.{arith}
 use borrow.Author.Needs.{needs}
 use Rattle.rules.specs.Closing.{round, unsets}
+use Rattle.rules.proofs.MeaningLaws.{unsets-le}
 use Rattle.formula.specs.Starts.{callClauses}
 use Rattle.search.specs.declared.close.RoundEnd.{RoundEnd}
 use Rattle.search.specs.declared.close.RoundEnd.the-variants.{UnderWay}
@@ -12,13 +14,18 @@ use Rattle.search.proofs.close.close.Statement.{statement}
 use Rattle.search.proofs.close.close.Tie as tie
 
 abbrev Inv-loop : tie.InvT-loop
-Inv-loop entries starts constraint total values₀ values = Rounds (callClauses entries constraint total) values₀ values
+Inv-loop entries starts constraint total values₀ rounds₀ values rounds = Rounds (callClauses entries constraint total) values₀ values rounds
 
 abbrev μ-loop : tie.MeasureT-loop
-μ-loop entries starts constraint total values₀ values = unsets values
+μ-loop entries starts constraint total values₀ rounds₀ values rounds = unsets values
 
 loop-holds : tie.Need-loop-holds Inv-loop μ-loop
 loop-holds c = rounds-start _ (c .before .before .args .values .now)
+
+add-rounds : tie.Need-add-rounds Inv-loop μ-loop
+add-rounds c =
+    let start = c .before .before .before in
+    omega (arith, c .loop .inv .few, unsets-le (start .args .values .now), start .pre .formula .vars-fit)
 
 round-requires : tie.Need-round-requires Inv-loop μ-loop
 round-requires c κs =
@@ -43,7 +50,7 @@ returns : tie.Need-returns Inv-loop μ-loop
 returns c =
     let round = c .before .before .before .before in
     let l = round .before .before .loop in
-    rounds-false _ _ (l .values) (l .inv) (round-is round (c .enum-told .given .1))
+    rounds-false _ _ (l .values) (l .rounds) (l .inv) _ (round-is round (c .enum-told .given .1))
 
 enum-known-set : tie.Need-enum-known-set Inv-loop μ-loop
 enum-known-set c = search needs
@@ -65,17 +72,17 @@ set-is c = round-is (ended c) (c .set .given .1)
 returns-2 : tie.Need-returns-2 Inv-loop μ-loop
 returns-2 c =
     let set = c .before .before in
-    rounds-still _ _ _ (ended set .before .before .loop .inv) _ _ (set-is set) (c .if1 .taken)
+    rounds-still _ _ _ _ (ended set .before .before .loop .inv) _ _ (set-is set) (c .if1 .taken)
 
 loop-less : tie.Need-loop-less Inv-loop μ-loop
 loop-less c =
     let set = c .before .before in
-    rounds-falls _ _ _ (ended set .before .before .loop .inv) _ _ (set-is set) (c .if1 .left)
+    rounds-falls _ _ _ _ (ended set .before .before .loop .inv) _ _ (set-is set) (c .if1 .left)
 
 loop-again : tie.Need-loop-again Inv-loop μ-loop
 loop-again c =
     let set = c .before .before in
-    rounds-again _ _ _ (ended set .before .before .loop .inv) _ _ (set-is set) (c .if1 .left)
+    rounds-again _ _ _ _ (ended set .before .before .loop .inv) _ _ (set-is set) (c .if1 .left)
 
 pub close-spec : {M : Type 1} → statement M
 close-spec =
@@ -84,6 +91,7 @@ close-spec =
     Inv-loop
     μ-loop
     loop-holds
+    add-rounds
     round-requires
     enum-told
     same-length

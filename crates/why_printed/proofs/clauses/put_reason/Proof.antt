@@ -6,14 +6,14 @@ use native.Mathlib.Omega.{arith}
 use borrow.Author.Needs.{needs}
 use lib.ListN.{length, take}
 use lib.Seq.{length-take-le}
-use Rattle.rules.specs.Lists.{count}
+use Rattle.rules.specs.Lists.{isSet, count}
 use Rattle.rules.specs.Meaning.{clauses}
 use Rattle.rules.specs.Why.{marked}
 use Rattle.rules.specs.WhyPrinted.{whyLine, keptLines}
 use Rattle.formula.proofs.StartsLaws.{found-front}
 use Rattle.buffers.specs.Put.{Room}
 use Rattle.buffers.proofs.PutLaws.{room-first, room-then, room-same, put-then, put-same}
-use Rattle.why_printed.specs.Reason.{isKept, reasonText}
+use Rattle.why_printed.specs.Reason.{reasonText}
 use Rattle.why_printed.proofs.ReasonLaws.{length-marked}
 use Rattle.why_printed.proofs.clauses.put_reason.Statement.{statement}
 use Rattle.why_printed.proofs.clauses.put_reason.Tie as tie
@@ -21,32 +21,32 @@ use Rattle.why_printed.proofs.clauses.put_reason.Tie as tie
 abbrev start : tie.After-find-starts → tie.Start
 start c = c .before .before .before .before .before
 
-abbrev starts-of : tie.After-count-kept → tie.After-find-starts
+abbrev starts-of : tie.After-count-set → tie.After-find-starts
 starts-of c = c .before .before .before .before
 
 -- how many are counted, and the text by that number
-kept-is : (c : tie.After-count-kept) → c .count-kept .result
+kept-is : (c : tie.After-count-set) → c .count-set .result
     ≡ length (marked (start (starts-of c) .args .marks .now) (clauses (start (starts-of c) .args .entries .now)))
 kept-is c =
     let f = starts-of c in
     let a = start f .args in
-    c .count-kept .ensures ∙ ap (λ (n : ℕ). count isKept (take n (a .marks .now))) (f .find-starts .ensures .count-is) ∙
+    c .count-set .ensures ∙ ap (λ (n : ℕ). count isSet (take n (a .marks .now))) (f .find-starts .ensures .count-is) ∙
     sym (length-marked (a .marks .now) (clauses (a .entries .now)))
 
-abbrev first : tie.After-count-kept → List ℕ
-first c = whyLine (start (starts-of c) .args .report) (c .count-kept .result)
+abbrev first : tie.After-count-set → List ℕ
+first c = whyLine (start (starts-of c) .args .report) (c .count-set .result)
 
 abbrev lines : tie.Start → List ℕ
 lines s = keptLines (s .args .marks .now) (clauses (s .args .entries .now))
 
-whole : (c : tie.After-count-kept)
+whole : (c : tie.After-count-set)
     → let a = start (starts-of c) .args in
     first c ++ lines (start (starts-of c)) ≡ reasonText (a .report) (a .entries .now) (a .marks .now)
 whole c =
     let s = start (starts-of c) in
     ap (λ (k : ℕ). whyLine (s .args .report) k ++ lines s) (kept-is c)
 
-room : (c : tie.After-count-kept) → Room 0 (first c ++ lines (start (starts-of c))) (start (starts-of c) .args .out .now)
+room : (c : tie.After-count-set) → Room 0 (first c ++ lines (start (starts-of c))) (start (starts-of c) .args .out .now)
 room c = room-same (sym (whole c)) (start (starts-of c) .pre .0 .room)
 
 find-starts-requires : tie.Need-find-starts-requires
@@ -54,13 +54,13 @@ find-starts-requires c κs =
     let s = c .before .before .before .before in
     record { entries-fit = omega (arith, s .pre .0 .entries-fit); room = s .pre .1 }
 
-slice-aggregate-count-kept : tie.Need-slice-aggregate-count-kept
-slice-aggregate-count-kept c =
+slice-aggregate-count-set : tie.Need-slice-aggregate-count-set
+slice-aggregate-count-set c =
     let f = c .before .before .before in
     sym (length-take-le _ _ (omega (arith, f .find-starts .ensures .count-is, start f .pre .0 .marks-fit)))
 
-count-kept-requires : tie.Need-count-kept-requires
-count-kept-requires c κs =
+count-set-requires : tie.Need-count-set-requires
+count-set-requires c κs =
     let f = c .before .before .before in
     omega (
       arith,
@@ -120,8 +120,8 @@ put-reason-spec =
     tie.close
     (tie.spec
     find-starts-requires
-    slice-aggregate-count-kept
-    count-kept-requires
+    slice-aggregate-count-set
+    count-set-requires
     put-first-requires
     add-put-clauses
     slice-reshare-prefix-put-clauses

@@ -1,18 +1,18 @@
--- `clauses::count_kept` meets its contract. The invariant of its loop: those before i are counted. The measure is what is left.
+-- `count::count_set` meets its contract. The invariant of its loop: those before i are counted. The measure is what is left.
 -- Assumes nothing.
 use Prim.Native.Nat.{_-_}
 use native.Mathlib.Omega.{arith}
 use borrow.Author.Needs.{needs}
 use lib.ListN.{length}
-use Rattle.why_printed.proofs.ReasonLaws.{Counting, counting-start, counting-step, counting-done}
-use Rattle.why_printed.proofs.clauses.count_kept.Statement.{statement}
-use Rattle.why_printed.proofs.clauses.count_kept.Tie as tie
+use Rattle.buffers.proofs.CountLaws.{Counting, counting-start, counting-step, counting-done}
+use Rattle.buffers.proofs.count.count_set.Statement.{statement}
+use Rattle.buffers.proofs.count.count_set.Tie as tie
 
 abbrev Inv-loop : tie.InvT-loop
-Inv-loop marks kept₀ i₀ kept i = Counting marks i kept
+Inv-loop bytes set₀ i₀ set i = Counting bytes i set
 
 abbrev μ-loop : tie.MeasureT-loop
-μ-loop marks kept₀ i₀ kept i = length marks - i
+μ-loop bytes set₀ i₀ set i = length bytes - i
 
 loop-holds : tie.Need-loop-holds Inv-loop μ-loop
 loop-holds c = counting-start _
@@ -39,8 +39,8 @@ loop-again c =
 returns : tie.Need-returns Inv-loop μ-loop
 returns c = counting-done (c .before .loop .inv) (c .loop-test .left)
 
-pub count-kept-spec : {M : Type 1} → statement M
-count-kept-spec =
+pub count-set-spec : {M : Type 1} → statement M
+count-set-spec =
     tie.close
     (tie.spec
     Inv-loop

@@ -1,0 +1,2 @@
+-- The closing of a list as code makes it.
+pub mod Ended
