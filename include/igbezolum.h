@@ -45,7 +45,7 @@
  *
  * Time: a call ends by itself, and sooner only by its budget, which is looked at before each try. There is one closing for each try and one for
  * each call of the search. A closing has at most one round more than the variables that it sets, so 257, and a round looks at every clause
- * once. The slowest try that we know takes 2.1 ms (`bash bench/one_try.sh`, on an Intel Xeon); the runs of bench/RESULTS.md take 0.1 to 29
+ * once. The slowest try that we know takes 2 to 3 ms (`bash bench/one_try.sh`, on an Intel Xeon); the runs of bench/RESULTS.md take 0.1 to 29
  * microseconds a try.
  */
 #ifndef IGBEZOLUM_H

@@ -75,6 +75,21 @@ static void *setup_deepest(void *unused)
     return unused;
 }
 
+/* A chain backwards: as many rounds as a closing may take. It leaves its list in `entries`, which the calls behind it write anew or do not read. */
+static void *close_longest(void *unused)
+{
+    size_t n = 0;
+    for (int32_t v = 255; v > 0; v--) {
+        entries[n++] = -v;
+        entries[n++] = v + 1;
+        entries[n++] = 0;
+    }
+    static const int32_t held[] = {1};
+    igb_closing got = igb_close(entries, n, 256, held, 1, values, IGB_VALUES_LEN);
+    CHECK(got.answer == IGB_OK && got.rounds == 257 && got.set == 256, "the longest closing");
+    return unused;
+}
+
 /* Runs `call` in a thread on the upper `bytes` of a painted mapping and answers how many of them it used. */
 static size_t used(void *(*call)(void *), size_t bytes)
 {
@@ -105,7 +120,7 @@ int main(void)
         const char *name;
         void *(*call)(void *);
     } calls[] = {{"a thread alone", nothing}, {"igb_read", read_largest}, {"igb_run", run_deepest}, {"igb_setup", setup_deepest},
-                 {"igb_why", why_deepest}, {"igb_witness", witness_deepest}, {"igb_witness_text", lines_deepest},
+                 {"igb_close", close_longest}, {"igb_why", why_deepest}, {"igb_witness", witness_deepest}, {"igb_witness_text", lines_deepest},
                  {"igb_table", table_deepest}};
     for (size_t i = 0; i < sizeof calls / sizeof *calls; i++) {
         size_t bytes = used(calls[i].call, LARGE);
