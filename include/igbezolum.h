@@ -9,10 +9,14 @@
  *     igb_run      the list to a status for each switch, how it was settled, the clause that holds it, and a log of the run
  *     igb_setup    the list to one valid setup
  *     igb_close    the list to what follows at once, without a search
+ *     igb_check_claims     the list and a file of another tool, which claims that literals are forced, to a verdict
  *     igb_why      the list and a literal to the clauses that alone force it, or to a valid setup that has it false
  *     igb_witness  the list and a free switch to two valid setups that differ on it
+ *     igb_shorter  the list to a shorter text with the same valid setups, with what a run settles folded in
  *     igb_witness_text     the text and a free switch to both setups printed, a line each
  *     igb_table    the text to the printed table, as the program `table` prints it
+ *     igb_read_groups      a file of groups, switches with more than two positions, to a list of entries and the sizes of the groups
+ *     igb_groups_table     a file of groups to its printed table, as the program `groups` prints it
  *     igb_version  the version of the library that is linked
  *
  * A text, in short (docs/RULES.md, "The text", is the whole rule):
@@ -25,6 +29,10 @@
  *   - exactly C clauses stand, each closed, with no variable above V; a % behind the last one ends the text.
  * Refused, though some tools take it: +1 and -0; a byte order mark; a blank before p; a comment behind a blank; fewer clauses than the
  * header says, or more; a last clause without its 0; a variable above V; a second header.
+ *
+ * A file of groups, in short (docs/RULES.md, "Groups", is the whole rule): numbers alone, as those behind a header, with no comment and no %. The
+ * number of groups, 0 to IGB_GROUPS_MAX; for each group its number of values, 2 to 16; the number of clauses; the clauses, each closed by a 0.
+ * There is one variable a value, group after group, from 1 on, and exactly one value of a group holds.
  *
  * igb_run, igb_setup, igb_close, igb_witness and igb_table take the literals that are held: choices that have been made already. What they
  * say is said of the setups with these choices; with none held, of all.
@@ -69,7 +77,7 @@ extern "C" {
  * refused that was accepted before, or does a settled status change.
  */
 #define IGB_VERSION_MAJOR 0
-#define IGB_VERSION_MINOR 8
+#define IGB_VERSION_MINOR 11
 #define IGB_VERSION_PATCH 0
 #define IGB_VERSION (IGB_VERSION_MAJOR * 10000 + IGB_VERSION_MINOR * 100 + IGB_VERSION_PATCH)
 
@@ -81,11 +89,13 @@ extern "C" {
 #define IGB_ENTRIES_MAX 4096  /* entries of a list: literals and the 0 that closes each clause */
 #define IGB_CHUNK_MAX 256     /* largest chunk limit; the smallest is 1 */
 #define IGB_HELD_MAX 256      /* held literals; they count neither against IGB_CLAUSES_MAX nor against IGB_ENTRIES_MAX */
+#define IGB_GROUPS_MAX 128    /* groups, of 2 to 16 values each and IGB_VARS_MAX values together */
 #define IGB_LOG_ROW 6         /* numbers of a log row */
 
-/* Buffers that are long enough for every formula, in elements. Those for entries, marks and texts are also the least that is
- * taken. */
-#define IGB_ENTRIES_LEN 4096  /* int32_t, for igb_read */
+/* Buffers that are long enough for every formula, in elements. Those for entries, sizes, marks and texts are also the least that
+ * is taken. */
+#define IGB_ENTRIES_LEN 4096  /* int32_t, for igb_read and igb_read_groups */
+#define IGB_SIZES_LEN 128     /* uint8_t, for igb_read_groups */
 #define IGB_STATUS_LEN 256    /* uint8_t, for igb_run */
 #define IGB_CALLS_LEN 256     /* uint32_t, for igb_run */
 #define IGB_WAYS_LEN 256      /* uint8_t, for igb_run */
@@ -94,36 +104,42 @@ extern "C" {
 #define IGB_MARKS_LEN 1024    /* uint8_t, for igb_why */
 #define IGB_VALUES_LEN 256    /* uint8_t, for igb_setup, igb_close and igb_why */
 #define IGB_WITNESS_LEN 256   /* int32_t, each of the two for igb_witness */
+#define IGB_SHORTER_LEN 32768 /* uint8_t, for igb_shorter */
 #define IGB_WITNESS_TEXT_LEN 4096 /* uint8_t, for igb_witness_text */
 #define IGB_TABLE_LEN 9216    /* uint8_t, for igb_table */
+#define IGB_GROUPS_TABLE_LEN 4096 /* uint8_t, for igb_groups_table */
 
 #define IGB_STACK_BYTES 524288 /* stack that is enough for every call */
 
-/* What the program `table`, and so igb_table, gives to the run; igb_witness_text does too. */
+/* What the program `table`, and so igb_table, gives to the run; igb_witness_text and igb_groups_table do too. */
 #define IGB_TABLE_BUDGET 1000000
 #define IGB_TABLE_CHUNK 16
 
 /* ---- numbers */
 
-/* The answer of a reading, a run, a setup, a closing, a why or a witness. Places and indices count from 0; that of 0, 1, 10, 14, 20, 21 and 22 is 0. */
+/* The answer of a reading, a run, a setup, a closing, a check of claims, a why, a witness or a shorter file. Places and indices count from 0; that of 0, 1, 10, 14, 20, 21 and 22 is 0. */
 enum {
     IGB_OK = 0,                /* the text is accepted; the run is settled and there is a valid setup; the clauses are marked */
     IGB_SHORT_BUFFER = 1,      /* a lent buffer is too short */
     IGB_LONG_TEXT = 2,         /* the text has over IGB_TEXT_MAX bytes; place IGB_TEXT_MAX */
     IGB_BAD_HEADER = 3,        /* the header is missing or malformed; place: start of that line, or text length */
-    IGB_LARGE_HEADER = 4,      /* the header is over IGB_VARS_MAX or IGB_CLAUSES_MAX; place: start of its line */
+    IGB_LARGE_HEADER = 4,      /* the header is over IGB_VARS_MAX or IGB_CLAUSES_MAX; place: start of its line; groups: the size that passes
+                                  IGB_VARS_MAX, or the number of clauses, negative or over IGB_CLAUSES_MAX; place: its first byte */
     IGB_BAD_TOKEN = 5,         /* a malformed token, or a % before the last clause; here and in the next three the place is its first byte */
     IGB_TOKEN_BEHIND = 6,      /* a token after the last clause; a % there ends the text, and nothing behind it is read */
     IGB_TOKEN_OVER_VARS = 7,   /* a variable above the header's number */
     IGB_MANY_TOKENS = 8,       /* one entry more than IGB_ENTRIES_MAX */
     IGB_SHORT_TEXT = 9,        /* the text ends inside a clause or before the last one; place: text length */
-    IGB_BAD_LIMITS = 10,       /* run, setup, close, why, witness: over IGB_VARS_MAX variables; run, witness: a chunk limit of 0 or over IGB_CHUNK_MAX */
+    IGB_BAD_LIMITS = 10,       /* run, setup, close, why, witness, shorter: over IGB_VARS_MAX variables; run, witness, shorter: a chunk limit of 0 or over IGB_CHUNK_MAX */
     IGB_BAD_LIST = 11,         /* these too: list over IGB_ENTRIES_MAX (place IGB_ENTRIES_MAX), not ended by 0 (its length), or with
                                   more than IGB_CLAUSES_MAX zeros (index of the first one too many) */
+    /* groups: the expanded list is over IGB_CLAUSES_MAX or IGB_ENTRIES_MAX: IGB_BAD_LIST at place 0 */
     IGB_ENTRY_OVER_VARS = 12,  /* these too: a variable above vars; place: index of the first */
     IGB_BAD_LITERAL = 13,      /* why: the literal is 0 or above vars; run, setup, close, witness: a held literal is; place: its index */
     IGB_NOT_FREE = 14,         /* witness: the variable is 0, above vars, or not marked free by the run */
     IGB_MANY_HELD = 15,        /* run, setup, close, witness: over IGB_HELD_MAX held literals; place IGB_HELD_MAX */
+    IGB_BAD_GROUP = 16,        /* groups: their number is not 0 to IGB_GROUPS_MAX, or a size is not 2 to 16; place: its first byte */
+    IGB_REJECTED = 17,         /* claims: the file does not hold; place: the first byte of the first number at fault, or text length */
     IGB_NO_MODEL = 20,         /* there is no valid setup; close: a clause became false, which means the same */
     IGB_STOPPED = 21,          /* the budget stopped the run, and what is marked holds; or it stopped the why, and nothing is marked */
     IGB_NOT_FORCED = 22        /* why: a valid setup has the literal false */
@@ -205,6 +221,31 @@ typedef struct {
     uint32_t set;    /* variables that are set; 0 after IGB_NO_MODEL */
 } igb_closing;
 
+/* What igb_shorter returns: the numbers of its run, and the length of the text in bytes; all but the first two are 0 if it is refused. */
+typedef struct igb_shorter_report {
+    uint32_t answer;
+    uint32_t place;
+    uint32_t calls;
+    uint32_t tries;
+    uint32_t forced;
+    uint32_t free;
+    uint32_t length;
+} igb_shorter_report;
+
+typedef struct {
+    uint32_t answer;
+    uint32_t place;
+    uint32_t groups;  /* groups, and variables, clauses and entries of the expanded list; all 0 if the text is refused */
+    uint32_t vars;
+    uint32_t clauses;
+    uint32_t count;
+} igb_groups;
+
+typedef struct {
+    uint32_t answer;
+    uint32_t place;
+} igb_verdict;
+
 /*
  * Reads a text. Its entries are the literals of clause 1 and a 0, those of clause 2 and a 0, and so on.
  *
@@ -266,6 +307,21 @@ igb_closing igb_close(const int32_t *entries, size_t entries_len, uint32_t vars,
                       size_t values_len);
 
 /*
+ * Checks a file of another tool, which claims that literals are forced on a list of `vars` variables. The file has numbers alone, as a text has
+ * them behind its header, but no comments and no %, in two sections:
+ *   - a valid setup: its count, which is vars, and vars literals, variable by variable;
+ *   - claims: their number, and for each a literal and a tree. A tree is -v, a split on variable v with the tree for v false and then the tree
+ *     for v true, or n, an end that names clause n, from 1.
+ * IGB_OK exactly if the setup is valid and in each claim's tree no split is on a variable that is set, and every end names a clause whose
+ * literals are all false, under the claim's negation and the splits above. So every claimed literal is forced, whatever the tool did.
+ *
+ * Refused: IGB_BAD_LIMITS for `vars` alone, IGB_BAD_LIST, IGB_ENTRY_OVER_VARS, IGB_LONG_TEXT, in that order; then from left to right
+ * IGB_BAD_TOKEN before IGB_REJECTED, at the first number at fault. A setup that is not valid has the place of its count; a text that ends too
+ * early has the place text_len.
+ */
+igb_verdict igb_check_claims(const int32_t *entries, size_t entries_len, uint32_t vars, const uint8_t *text, size_t text_len);
+
+/*
  * Why is a literal forced? Marks clauses of a list of `vars` variables that alone force it: no assignment makes all of them true with the
  * literal false, and without any single one of them there is such an assignment. Of two separate reasons the earlier one is marked.
  * `budget` is how many tries all calls may take together.
@@ -291,6 +347,19 @@ igb_report igb_witness(const int32_t *entries, size_t entries_len, uint32_t vars
                        uint32_t chunk_limit, uint32_t variable, int32_t *first, size_t first_len, int32_t *witness, size_t witness_len);
 
 /*
+ * The shorter file of a list: runs as igb_run does, with no literal held, and writes DIMACS CNF text at the start of `text`, with no 0 behind it.
+ * After IGB_OK and IGB_STOPPED these are the forced literals, each as a clause of its own, by variable, and then the clauses that hold none of them, in
+ * order, less the negations of forced literals and later repeats of a literal; after IGB_NO_MODEL one clause, which is empty. The text has `vars`
+ * variables, the same valid setups, and no more clauses and entries than the list; igb_read takes it. `length` is how many bytes it has;
+ * the other numbers are those of the run. Nothing is written behind it.
+ *
+ * Refused it writes nothing, and all counts are 0: IGB_BAD_LIMITS, IGB_SHORT_BUFFER (text_len below IGB_SHORTER_LEN), IGB_BAD_LIST,
+ * IGB_ENTRY_OVER_VARS, in that order.
+ */
+igb_shorter_report igb_shorter(const int32_t *entries, size_t entries_len, uint32_t vars, uint32_t budget, uint32_t chunk_limit, uint8_t *text,
+                               size_t text_len);
+
+/*
  * Puts both setups of a text and a variable at the start of `out`, a line each: the literals with one space between, and LF. Returns
  * their length in bytes, with no 0 behind them. Nothing is written behind them. If out_len is below IGB_WITNESS_TEXT_LEN nothing is
  * written and 0 is returned; they are never longer. A text that is refused, or a variable that is not free, has "refused N place P".
@@ -303,6 +372,28 @@ size_t igb_witness_text(const uint8_t *text, size_t text_len, uint32_t variable,
  * table is longer. A text that is refused has the table "refused N place P", and so has one whose held literals are.
  */
 size_t igb_table(const uint8_t *text, size_t text_len, const int32_t *held, size_t held_len, uint8_t *out, size_t out_len);
+
+/*
+ * Reads a file of groups. Its entries are the expanded list: group by group one clause of all its values, ascending, then each pair negated, by
+ * lower and then higher number, which together say that exactly one value holds; then the file's own clauses. `vars`, `clauses` and
+ * `count` are those of this list, which igb_run, igb_setup, igb_close and igb_why take as they take any: what is accepted here is never
+ * refused with IGB_BAD_LIST or IGB_ENTRY_OVER_VARS. Value k of group g, both from 1, is variable sizes[0] + .. + sizes[g - 2] + k. Forced off it
+ * is dead: no valid setup uses it; forced on it is settled: every one does.
+ *
+ * Refused with IGB_SHORT_BUFFER (entries_len below IGB_ENTRIES_LEN or sizes_len below IGB_SIZES_LEN) or IGB_LONG_TEXT it writes nothing. Then, from
+ * left to right, at each number IGB_BAD_TOKEN, IGB_BAD_GROUP, IGB_LARGE_HEADER, IGB_TOKEN_BEHIND, IGB_TOKEN_OVER_VARS; IGB_SHORT_TEXT if the text ends
+ * early; last IGB_BAD_LIST. Otherwise it writes the first IGB_ENTRIES_LEN entries and the first IGB_SIZES_LEN sizes: the list and the sizes, each with
+ * zeros behind, or zeros alone if the text is refused. Longer buffers keep their rest.
+ */
+igb_groups igb_read_groups(const uint8_t *text, size_t text_len, int32_t *entries, size_t entries_len, uint8_t *sizes, size_t sizes_len);
+
+/*
+ * Puts the table of a file of groups at the start of `out` and returns its length in bytes: the first line of a table, then for each value
+ * "g:k settled", "g:k dead", "g:k free" or "g:k open", each ended by LF, with no 0 behind them; after IGB_NO_MODEL the first line alone. Nothing is
+ * written behind the table. If out_len is below IGB_GROUPS_TABLE_LEN nothing is written and 0 is returned; no table of groups is longer. A text that
+ * is refused has the table "refused N place P".
+ */
+size_t igb_groups_table(const uint8_t *text, size_t text_len, uint8_t *out, size_t out_len);
 
 /* The version of the library, as IGB_VERSION has it. */
 uint32_t igb_version(void);

@@ -28,9 +28,9 @@ there=$room/moved
 mv "$room/first" "$there"
 found=$(cd "$there" && find . -type f | sort | tr '\n' ' ')
 shared=$there/lib/libigbezolum.so.0
-expected="./bin/table ./bin/why ./bin/witness ./include/igbezolum.h ./lib/cmake/igbezolum/igbezolumConfig.cmake \
+expected="./bin/claims ./bin/groups ./bin/shorter ./bin/table ./bin/why ./bin/witness ./include/igbezolum.h ./lib/cmake/igbezolum/igbezolumConfig.cmake \
 ./lib/cmake/igbezolum/igbezolumConfigVersion.cmake ./lib/libigbezolum.a ./lib/libigbezolum.so.0 ./lib/pkgconfig/igbezolum-shared.pc \
-./lib/pkgconfig/igbezolum.pc ./libexec/igbezolum/program ./libexec/igbezolum/show_witness ./libexec/igbezolum/table ./libexec/igbezolum/why \
+./lib/pkgconfig/igbezolum.pc ./libexec/igbezolum/program ./libexec/igbezolum/show_claims ./libexec/igbezolum/show_groups ./libexec/igbezolum/show_shorter ./libexec/igbezolum/show_witness ./libexec/igbezolum/table ./libexec/igbezolum/why \
 ./libexec/igbezolum/words.txt "
 if [ ! -e "$shared" ]; then
     echo "install: the shared library was left out: what needs it is left out"
@@ -46,6 +46,8 @@ cmp -s "$room/out" <(target/bin/table <$ring) || failed "the installed table pri
 [ $? -eq 22 ] || failed "the installed why does not end with 22"
 "$there/bin/witness" $ring 1 >"$room/out" 2>"$room/log"
 [ $? -eq 1 ] && [ "$(cat "$room/out")" = "refused 14 place 0" ] && grep -q "not free" "$room/log" || failed "the installed witness does not say what it refuses"
+"$there/bin/groups" examples/encoder.groups >"$room/out" 2>"$room/log" || failed "the installed groups does not answer"
+cmp -s "$room/out" <(target/bin/show_groups <examples/encoder.groups) || failed "the installed groups prints something else"
 echo "install: the programs answer where they are moved to"
 
 if [ -e "$shared" ]; then

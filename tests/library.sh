@@ -48,7 +48,7 @@ if has gcc; then
         quietly "compiling a C++ host" g++ "${strict[@]}" -o target/c/forced_cpp -x c++ examples/forced.c -x none "$archive"
         [ "$(target/c/forced_cpp examples/surface_ring.cnf)" = "$shown" ] || { echo "library: a C++ host says something else"; exit 1; }
     fi
-    for name in interface close why witness threads handler stack; do
+    for name in interface close claims why witness shorter groups threads handler stack; do
         quietly "compiling $name.c" gcc -std=c99 -O1 -g "${strict[@]}" -pthread -o "target/c/$name" "tests/c/$name.c" "$archive"
         "target/c/$name" || exit 1
     done
@@ -56,8 +56,11 @@ if has gcc; then
     if has valgrind; then
         quietly "interface.c under valgrind" valgrind --error-exitcode=1 --leak-check=full -q target/c/interface
         quietly "close.c under valgrind" valgrind --error-exitcode=1 --leak-check=full -q target/c/close
+        quietly "claims.c under valgrind" valgrind --error-exitcode=1 --leak-check=full -q target/c/claims
         quietly "why.c under valgrind" valgrind --error-exitcode=1 --leak-check=full -q target/c/why
         quietly "witness.c under valgrind" valgrind --error-exitcode=1 --leak-check=full -q target/c/witness
+        quietly "shorter.c under valgrind" valgrind --error-exitcode=1 --leak-check=full -q target/c/shorter
+        quietly "groups.c under valgrind" valgrind --error-exitcode=1 --leak-check=full -q target/c/groups
         quietly "threads.c under valgrind" valgrind --error-exitcode=1 --leak-check=full -q target/c/threads 5
         echo "library: valgrind finds nothing in the tests from C"
     fi

@@ -1,11 +1,11 @@
 #!/usr/bin/env bash
-# ./table, ./why and ./witness as scripts (tools/program), on what `rt check` built: statuses, what fails to be read or written, where a refusal
+# ./table, ./why, ./witness, ./shorter, ./groups and ./claims as scripts (tools/program), on what `rt check` built: statuses, what fails to be read or written, where a refusal
 # is and what was expected, links, several files, help, and, with a stand-in for `rt`, when the program is built and what is told meanwhile.
 cd "$(dirname "$0")/.." || exit 2
-for program in table why show_witness; do
+for program in table why show_witness show_shorter show_groups show_claims; do
     [ -x "target/bin/$program" ] || { echo "programs: no target/bin/$program: run 'rt check $program' first"; exit 2; }
 done
-touch target/bin/{table,why,show_witness} # they are taken as they are
+touch target/bin/{table,why,show_witness,show_shorter,show_groups,show_claims} # they are taken as they are
 room=$(mktemp -d) || exit 2
 trap 'rm -rf "$room"' EXIT
 failed() {
@@ -14,6 +14,7 @@ failed() {
 }
 ring=examples/surface_ring.cnf
 none=examples/no_setup.cnf
+card=examples/encoder.groups
 
 # runs WORDS...: sets `status`, `said` (standard output) and `told` (standard error); a run that waits is ended.
 runs() {
@@ -50,6 +51,41 @@ ends 20 ./why $none 1
 ends 21 ./why crates/vectors/data/pigeons_9.cnf 1
 ends 0 ./witness $ring 11
 [ "$said" = "$(target/bin/show_witness 11 <$ring)" ] || failed "./witness prints something else than the program"
+ends 0 ./shorter $ring
+[ "$said" = "$(target/bin/show_shorter <$ring)" ] || failed "./shorter prints something else than the program"
+# the shorter file of a shorter file is itself
+for file in examples/*.cnf; do
+    ends 0 ./shorter "$file"
+    printf '%s\n' "$said" >"$room/shorter.cnf"
+    ends 0 ./shorter "$room/shorter.cnf"
+    printf '%s\n' "$said" | cmp -s - "$room/shorter.cnf" || failed "the shorter file of that of $file is another one"
+done
+ends 2 ./shorter $ring $none
+ends 0 ./groups $card
+[ "$said" = "$(target/bin/show_groups <$card)" ] || failed "./groups prints something else than the program"
+ends 20 ./groups - < <(echo "1 2 2 -1 0 -2 0")
+ends 0 ./groups $card $card
+[ "$(grep -c "^==> $card <==" <<<"$said")" -eq 2 ] || failed "./groups does not name its files"
+
+# ---- claims of another tool
+ends 0 ./claims $ring examples/surface_ring.claims
+[ "$said" = "accepted 3 claims" ] || failed "./claims says '$said' of the ring's claims"
+sed 's/ 17$/ 1/' examples/surface_ring.claims >"$room/wrong.claims"
+ends 1 ./claims $ring "$room/wrong.claims"
+[ "$said" = "refused 17 place 129" ] && grep -q "wrong.claims: line 5, column 5: \`1\`: a number at fault" <<<"$told" || failed "./claims says '$said', '$told' of a wrong end"
+printf '12 x' >"$room/bad.claims"
+ends 1 ./claims $ring "$room/bad.claims"
+[ "$said" = "refused 5 place 3" ] && grep -q "bad.claims: line 1, column 4" <<<"$told" || failed "./claims says '$said', '$told' of a malformed token"
+printf 'p cnf x' >"$room/bad.cnf"
+ends 1 ./claims "$room/bad.cnf" examples/surface_ring.claims
+[ "$said" = "refused 3 place 0" ] && grep -q "bad.cnf: line 1, column 1" <<<"$told" || failed "./claims says '$said', '$told' of a malformed card"
+ends 3 ./claims $ring "$room/nothing"
+silent
+for words in "" "$ring" "$ring $ring $ring" "--none $ring"; do
+    # shellcheck disable=SC2086
+    ends 2 ./claims $words
+    silent
+done
 
 # ---- used wrongly
 for words in "" "1" "--none" "-x" "$ring -0" "$ring 1 x" "$ring 1 $ring" "$ring +1" "$ring 1234567890"; do
@@ -70,11 +106,16 @@ for word in "" x -0 +1 1x "1 " 1234567890 -; do
     ends 2 ./why $ring "$word"
     ends 2 ./witness $ring "$word"
 done
+for words in "" "--none" "-x" "$card -1"; do
+    # shellcheck disable=SC2086
+    ends 2 ./groups $words
+    silent
+done
 ends 2 tools/program
 ends 2 tools/program nothing
 
 # ---- reading fails
-for program in "./table" "./why 1" "./witness 1"; do
+for program in "./table" "./why 1" "./witness 1" "./groups"; do
     read -r program number <<<"$program"
     for file in "" . examples "$room/nothing" "$ring/none"; do
         # shellcheck disable=SC2086
@@ -113,6 +154,7 @@ for to in ">/dev/full" ">&-" ">&- <&-"; do
     writing "$to" ./table --help
     writing "$to" ./why $ring 1
     writing "$to" ./witness $ring 11
+    writing "$to" ./groups $card
     writing "$to" ./table README.md
 done
 timeout 300 ./table $ring 2>&- >"$room/out"
@@ -126,7 +168,7 @@ TMPDIR=$room/nothing runs ./table $ring
 
 # ---- the programs themselves tell it too, and print nothing of an input that is not read. direct TOLD REDIRECTION
 direct() {
-    for words in table "why 1" "show_witness 11"; do
+    for words in table "why 1" "show_witness 11" show_groups; do
         eval "timeout 300 target/bin/$words 2>\"\$room/err\" >\"\$room/out\" $2"
         [ ! -s "$room/out" ] && [ "$(cat "$room/err")" = "$1" ] || failed "target/bin/$words $2 prints '$(cat "$room/out")' and says: $(cat "$room/err")"
     done
@@ -219,12 +261,25 @@ told_of 1 "refused 3 place 0" "why: standard input: line 1, column 1: $header
 told_of 1 "refused 3 place 7" "witness: standard input: line 2, column 1: $header
     
     ^" ./witness - 1 < <(echo "c only")
+# of a file of groups, whose words are its own where those of a text speak of a header
+told_of 1 "refused 16 place 4" "groups: standard input: line 2, column 3: \`17\`: no number of groups or of values: 0 to 128 groups, of 2 to 16 values each
+    2 17
+      ^" ./groups - < <(printf '2\n2 17\n0\n')
+told_of 1 "refused 4 place 2" "groups: standard input: line 1, column 3: \`1025\`: over the sizes: at most 256 values of all groups, and 0 to 1,024 clauses
+    0 1025
+      ^" ./groups - < <(echo "0 1025")
+told_of 1 "refused 7 place 6" "groups: standard input: line 1, column 7: \`-3\`: a value that no group has: a literal's number is at most that of the last group's last value
+    1 2 1 -3 0
+          ^" ./groups - < <(echo "1 2 1 -3 0")
+told_of 1 "refused 11 place 0" "groups: standard input: the list is too long: groups and clauses together have at most 1,024 clauses and 4,096 entries" \
+    ./groups - < <(echo "9 16 16 16 16 16 16 16 16 16 0")
 # the refusal that README.md shows
 printf 'p cnf 4 9\n1 0\n2 0\n3 0\n4 0\n1 2 0\n4 x1 0\n' >"$room/card.cnf"
 runs ./table "$room/card.cnf"
 [ "${told//"$room/"/}" = "$(awk '/^    table: card.cnf/{on = 1} on && !/^    /{exit} on {print substr($0, 5)}' README.md)" ] ||
     failed "README.md shows another refusal than: $told"
-[ "$(cut -d'|' -f1 rust/src/words.txt | tr '\n' ' ')" = "$(seq 15 | tr '\n' ' ')" ] || failed "rust/src/words.txt has not a line for each refusal"
+[ "$(cut -d'|' -f1 rust/src/words.txt | tr '\n' ' ')" = "$(seq 17 | tr '\n' ' ')groups 4 groups 6 groups 7 groups 9 groups 11 " ] ||
+    failed "rust/src/words.txt has not a line for each refusal"
 
 # ---- what a text may look like, as README.md and include/igbezolum.h have it. reads STATUS PRINTED TEXT...: the first line for each text
 reads() {
@@ -293,6 +348,8 @@ for program in table why witness; do
         case $said in "use: $program FILE..."*"Exit status:"*) ;; *) failed "$program $word says: $said" ;; esac
     done
 done
+ends 0 ./shorter --help
+case $said in "use: shorter FILE"*"Exit status:"*) ;; *) failed "shorter --help says: $said" ;; esac
 rows=$(sed -n 's/^  \([0-9]*\) *\(.*\)/| \1 | \2 |/p' <<<"$said")
 [ "$(wc -l <<<"$rows")" -eq 8 ] || failed "help has not eight statuses"
 while IFS= read -r row; do

@@ -16,6 +16,7 @@ is_shown() {
 }
 is_shown 1 ./table examples/surface_ring.cnf
 is_shown 2 ./why examples/surface_ring.cnf 1
+is_shown 3 ./groups examples/encoder.groups
 # what stands behind the words "prints them" is what ./witness prints, with the words shown before
 asked=$(awk '/^    \.\/witness /{print substr($0, 5); exit}' README.md)
 pair=$(awk '/^prints them/{on = 1} on && /^    /{print substr($0, 5); seen = 1} seen && !/^    /{exit}' README.md)
@@ -23,6 +24,30 @@ if [ -z "$pair" ] || [ "$($asked)" != "$pair" ]; then
     echo "readme: README.md shows another pair than $asked prints"
     exit 1
 fi
+# what stands behind the words "writes this" is what ./shorter prints, with the words shown before
+asked=$(awk '/^    \.\/shorter /{print substr($0, 5); exit}' README.md)
+file=$(awk '/^writes this/{on = 1} on && /^    /{print substr($0, 5); seen = 1} seen && !/^    /{exit}' README.md)
+if [ -z "$file" ] || [ "$($asked)" != "$file" ]; then
+    echo "readme: README.md shows another file than $asked writes"
+    exit 1
+fi
+# the bytes and clauses of the table of cards are those of the files
+while IFS='|' read -r _ card bytes short clauses left _; do
+    card=${card//[\` ]/}
+    made=$(./shorter "$card")
+    left=${left%%,*}
+    header=$(grep -m1 '^p' "$card") shorter_header=${made%%$'\n'*}
+    if [ "$(wc -c <"$card")" -ne "$bytes" ] || [ "$(printf '%s\n' "$made" | wc -c)" -ne "$short" ] ||
+        [ "${header##* }" -ne "$clauses" ] || [ "${shorter_header##* }" -ne "$left" ]; then
+        echo "readme: README.md has other sizes of $card and its shorter file"
+        exit 1
+    fi
+done < <(grep '^| `examples/.*cnf` | [0-9]' README.md)
+# the claims that are shown are the file's, and what stands below them is what ./claims says of it
+shown=$(awk '/^    12 1 2 -3/{on = 1} on && !/^    /{exit} on{print substr($0, 5)}' README.md)
+[ -n "$shown" ] && [ "$shown" = "$(cat examples/surface_ring.claims)" ] || { echo "readme: README.md shows other claims than examples/surface_ring.claims"; exit 1; }
+[ "$(./claims examples/surface_ring.cnf examples/surface_ring.claims)" = "$(awk '/^    accepted /{print substr($0, 5); exit}' README.md)" ] ||
+    { echo "readme: ./claims says something else than README.md shows"; exit 1; }
 # what stands behind the words "finds no other difference" is what the diff of two tables prints, with the words shown before
 asked=$(awk '/^    diff /{print substr($0, 5); exit}' README.md)
 shown=$(awk '/^finds no other difference/{on = 1} on && /^    /{print substr($0, 5); seen = 1} seen && !/^    /{exit}' README.md)

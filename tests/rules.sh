@@ -1,9 +1,9 @@
 #!/usr/bin/env bash
-# docs/RULES.md names each definition file of the crate `rules`, and has the words that each edit that must fail quotes in its first line.
+# docs/RULES.md names each definition file of the crates `rules` and `texts`, and has the words that each edit that must fail quotes in its first line.
 cd "$(dirname "$0")/.." || exit 2
 page=docs/RULES.md
 wrong=0 files=0 edits=0
-for file in crates/rules/specs/*.antt; do
+for file in crates/{rules,texts}/specs/*.antt; do
     files=$((files + 1))
     grep -qF "specs/${file##*/}" "$page" || { echo "rules: $page does not name $file"; wrong=1; }
 done

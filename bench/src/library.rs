@@ -1,5 +1,6 @@
 //! The library through its C interface, and the peers that were found when this was built (cfg `cadical`, `picosat`).
 
+use crate::counted;
 use crate::plain;
 use crate::raw::{self, Reading, Report};
 
@@ -44,6 +45,7 @@ pub struct Formula {
 pub enum Who {
     Library,
     Plain,
+    Counted,
     #[cfg(cadical)]
     Cadical,
     #[cfg(picosat)]
@@ -55,6 +57,7 @@ impl Who {
         vec![
             Who::Library,
             Who::Plain,
+            Who::Counted,
             #[cfg(cadical)]
             Who::Cadical,
             #[cfg(picosat)]
@@ -64,13 +67,14 @@ impl Who {
 
     /// Whether it answers by the same run, so that calls, tries and log are the same and a budget stops it at the same place.
     pub fn is_same_run(self) -> bool {
-        matches!(self, Who::Library | Who::Plain)
+        matches!(self, Who::Library | Who::Plain | Who::Counted)
     }
 
     pub fn name(self) -> &'static str {
         match self {
             Who::Library => "library",
             Who::Plain => "plain Rust",
+            Who::Counted => "plain Rust with counts",
             #[cfg(cadical)]
             Who::Cadical => "CaDiCaL",
             #[cfg(picosat)]
@@ -84,6 +88,7 @@ impl Who {
         match self {
             Who::Library => raw::run(&f.entries, f.vars, &[], budget, chunk_limit, status, calls, ways, hints, log),
             Who::Plain => plain::run(&f.entries, f.vars, budget, chunk_limit, status, calls, ways, hints, log),
+            Who::Counted => counted::run(&f.entries, f.vars, budget, chunk_limit, status, calls, ways, hints, log),
             // SAFETY: the pointers go with the lengths of their slices; a status byte is written for each variable, and there are at most 256.
             #[cfg(cadical)]
             Who::Cadical => unsafe {

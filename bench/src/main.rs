@@ -1,9 +1,10 @@
-//! Measures the library against a plain Rust program, CaDiCaL and PicoSAT, and writes what it found.
+//! Measures the library against two plain Rust programs, CaDiCaL and PicoSAT, and writes what it found.
 //!
 //!   bench measure FOLDER FACTS OUT    measures, with the published files of FOLDER and the facts of the file FACTS; writes
 //!                                     OUT/RESULTS.md, OUT/ratios.svg and OUT/growth.svg
-//!   bench once WHO NAME FOLDER        one run, or one reading, of library or plain on the workload NAME, for callgrind
+//!   bench once WHO NAME FOLDER        one run, or one reading, of library, plain or counted on the workload NAME, for callgrind
 
+mod counted;
 mod library;
 mod plain;
 mod plot;
@@ -71,10 +72,29 @@ impl Measured {
         &self.taken[0]
     }
 
-    /// The library's time against the plain program's.
-    pub fn ratio(&self) -> Spread {
-        self.taken[1].ratio
+    /// The plain program in the library's form: with counts, and of readings the only one.
+    pub fn plain(&self) -> &Taken {
+        self.by(Who::Counted).or(self.by(Who::Plain)).expect("a plain program is always asked")
     }
+
+    /// The library's time against that.
+    pub fn ratio(&self) -> Spread {
+        self.plain().ratio
+    }
+
+    /// Whether peers were timed.
+    pub fn has_peers(&self) -> bool {
+        self.taken.iter().any(|t| !t.who.is_same_run())
+    }
+}
+
+/// Runs on a workload, and on its shorter files: of each the bytes, the clauses and the time, and the second time divided by the first.
+pub struct Shortened {
+    pub name: String,
+    pub bytes: [usize; 2],
+    pub clauses: [u32; 2],
+    pub times: [Spread; 2],
+    pub ratio: Spread,
 }
 
 /// All that was measured.
@@ -82,41 +102,47 @@ pub struct Results {
     pub runs: Vec<Measured>,
     pub growth: Vec<(&'static str, Vec<Measured>)>,
     pub readings: Vec<Measured>,
+    pub shortened: Vec<Shortened>,
     pub stack: usize,
     pub took: Duration,
 }
 
 // ---- measuring
 
-/// Times the contestants in turn, each round starting with another one. `work` does the whole workload once.
-fn in_turn(who: &[Who], work: &mut dyn FnMut(Who)) -> Vec<Taken> {
-    let repeats: Vec<u32> = who
-        .iter()
-        .map(|&w| {
+/// Times so many works in turn, each round starting with another one: the samples of each. `work` does one of them once.
+fn samples_of(works: usize, work: &mut dyn FnMut(usize)) -> Vec<Vec<f64>> {
+    let repeats: Vec<u32> = (0..works)
+        .map(|i| {
             let start = Instant::now();
-            work(w);
+            work(i);
             (SAMPLE.as_nanos() / start.elapsed().as_nanos().max(1)).clamp(1, 100_000) as u32
         })
         .collect();
-    let mut samples: Vec<Vec<f64>> = vec![Vec::new(); who.len()];
+    let mut samples: Vec<Vec<f64>> = vec![Vec::new(); works];
     for round in 0..ROUNDS {
-        for turn in 0..who.len() {
-            let i = (round + turn) % who.len();
+        for turn in 0..works {
+            let i = (round + turn) % works;
             let start = Instant::now();
             for _ in 0..repeats[i] {
-                work(who[i]);
+                work(i);
             }
             samples[i].push(start.elapsed().as_nanos() as f64 / f64::from(repeats[i]));
         }
     }
+    samples
+}
+
+/// The quotients of two works' samples, round by round.
+fn ratio_of(ours: &[f64], others: &[f64]) -> Spread {
+    Spread::of(ours.iter().zip(others).map(|(a, b)| a / b).collect())
+}
+
+/// Times the contestants in turn. `work` does the whole workload once.
+fn in_turn(who: &[Who], work: &mut dyn FnMut(Who)) -> Vec<Taken> {
+    let samples = samples_of(who.len(), &mut |i| work(who[i]));
     let library = samples[0].clone();
-    who.iter()
-        .zip(samples)
-        .map(|(&who, own)| {
-            let ratios = library.iter().zip(&own).map(|(l, o)| l / o).collect();
-            Taken { who, time: Spread::of(own), ratio: Spread::of(ratios) }
-        })
-        .collect()
+    let taken = |(&who, own): (&Who, Vec<f64>)| Taken { who, ratio: ratio_of(&library, &own), time: Spread::of(own) };
+    who.iter().zip(samples).map(taken).collect()
 }
 
 /// Both readers, which must agree; the formula if they accept.
@@ -212,6 +238,41 @@ fn ratios_said(m: &Measured) -> String {
     said.join(", ")
 }
 
+/// The library's runs on a workload and on its shorter files.
+fn measure_shorter(workload: &Workload) -> Result<Shortened, Failure> {
+    let whole = formulas_of(workload)?;
+    let mut bytes = 0;
+    let mut shorter = Vec::new();
+    for f in &whole {
+        let mut text = vec![0; 32_768];
+        let report = raw::shorter(&f.entries, f.vars, workload.budget, CHUNK_LIMIT, &mut text);
+        text.truncate(report.length as usize);
+        bytes += text.len();
+        let short = formula_of(&text)?.ok_or("a shorter file is refused")?;
+        let (mut before, mut after) = (Lent::new(), Lent::new());
+        Who::Library.run(f, workload.budget, CHUNK_LIMIT, &mut before);
+        Who::Library.run(&short, workload.budget, CHUNK_LIMIT, &mut after);
+        if before.status != after.status {
+            return Err("a shorter file has other statuses".into());
+        }
+        shorter.push(short);
+    }
+    let both = [whole, shorter];
+    let mut lent = Lent::new();
+    let samples = samples_of(2, &mut |i| {
+        for f in &both[i] {
+            black_box(Who::Library.run(black_box(f), workload.budget, CHUNK_LIMIT, &mut lent));
+        }
+    });
+    let clauses = both.each_ref().map(|formulas| formulas.iter().map(|f| f.clauses).sum());
+    let ratio = ratio_of(&samples[1], &samples[0]);
+    let name = workload.name.clone();
+    eprintln!("{name:24} {bytes:>8} bytes of shorter files, their time {:.2}", ratio.median);
+    let bytes = [workload.texts.iter().map(Vec::len).sum(), bytes];
+    let [whole, short]: [Vec<f64>; 2] = samples.try_into().expect("two works were timed");
+    Ok(Shortened { name, bytes, clauses, times: [Spread::of(whole), Spread::of(short)], ratio })
+}
+
 /// The most stack that one of the deepest runs needs.
 fn deepest_stack() -> Result<usize, Failure> {
     let mut most = 0;
@@ -232,7 +293,8 @@ fn measure(folder: &str, facts: &str, out: &str) -> Result<(), Failure> {
         eprintln!("growth: {}", series.name);
         growth.push((series.name, series.workloads.iter().map(|w| measure_runs(w, false)).collect::<Result<_, _>>()?));
     }
-    let results = Results { runs, growth, readings, stack: deepest_stack()?, took: start.elapsed() };
+    let shortened = workloads::cards_alone().iter().map(measure_shorter).collect::<Result<_, _>>()?;
+    let results = Results { runs, growth, readings, shortened, stack: deepest_stack()?, took: start.elapsed() };
     fs::write(format!("{out}/RESULTS.md"), report::page(&results, &facts))?;
     fs::write(format!("{out}/ratios.svg"), plot::ratios(&results))?;
     fs::write(format!("{out}/growth.svg"), plot::growth(&results))?;
@@ -245,7 +307,8 @@ fn once(who: &str, name: &str, folder: &str) -> Result<(), Failure> {
     let who = match who {
         "library" => Who::Library,
         "plain" => Who::Plain,
-        _ => return Err("WHO is library or plain".into()),
+        "counted" => Who::Counted,
+        _ => return Err("WHO is library, plain or counted".into()),
     };
     if let Some(workload) = workloads::runs(folder)?.iter().find(|w| w.name == name) {
         let mut lent = Lent::new();

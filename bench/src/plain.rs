@@ -4,13 +4,13 @@
 use crate::raw::{Reading, Report};
 
 const MAX_TEXT: usize = 32_768;
-const MAX_VARS: u32 = 256;
-const MAX_CLAUSES: u32 = 1_024;
-const MAX_ENTRIES: usize = 4_096;
+pub const MAX_VARS: u32 = 256;
+pub const MAX_CLAUSES: u32 = 1_024;
+pub const MAX_ENTRIES: usize = 4_096;
 const MAX_CHUNK: u32 = 256;
 
 /// A refusal: its number and its place.
-type Refusal = (u32, usize);
+pub type Refusal = (u32, usize);
 
 // ---- the text
 
@@ -79,8 +79,16 @@ fn read_entries(text: &[u8], entries: &mut [i32]) -> Result<(u32, u32, usize), R
             break;
         }
         let from = at;
-        while at < text.len() && !is_blank(text[at]) {
+        // a line whose first byte is c is a comment
+        let comment = text[from] == b'c' && text[from - 1] == b'\n';
+        while at < text.len() && text[at] != b'\n' && (comment || !is_blank(text[at])) {
             at += 1;
+        }
+        if comment {
+            continue;
+        }
+        if closed == clauses && text[from..at] == *b"%" {
+            break;
         }
         let (minus, word) = match &text[from..at] {
             [b'-', rest @ ..] => (true, rest),
@@ -180,15 +188,15 @@ fn close(clauses: &[&[i32]], values: &mut [Value]) -> bool {
     }
 }
 
-enum End {
+pub enum End {
     Model,
     None,
     Stopped,
 }
 
-struct Meter {
-    budget: u32,
-    spent: u32,
+pub struct Meter {
+    pub budget: u32,
+    pub spent: u32,
 }
 
 /// Leaves the model in the values, or else what was there.
@@ -224,7 +232,7 @@ fn choose(clauses: &[&[i32]], values: &mut [Value], meter: &mut Meter) -> End {
 
 // ---- the run
 
-fn refusal(entries: &[i32], vars: u32, chunk_limit: u32, least_len: usize, log_len: usize) -> Option<Refusal> {
+pub fn refusal(entries: &[i32], vars: u32, chunk_limit: u32, least_len: usize, log_len: usize) -> Option<Refusal> {
     if vars > MAX_VARS || chunk_limit == 0 || chunk_limit > MAX_CHUNK {
         return Some((10, 0));
     }

@@ -104,7 +104,7 @@ fn label(value: f64) -> String {
 
 // ---- ratios
 
-/// A row: its name, and for each of plain Rust, CaDiCaL and PicoSAT the ratio, if there is one.
+/// A row: its name, and for each of plain Rust with counts, CaDiCaL and PicoSAT the ratio, if there is one.
 fn row(m: &Measured) -> (String, Vec<Option<Spread>>) {
     let mut ratios = vec![Some(m.ratio())];
     ratios.extend(Who::all().into_iter().filter(|w| !w.is_same_run()).map(|w| m.by(w).map(|t| t.ratio)));
@@ -192,7 +192,7 @@ fn curves(which: usize, points: &[Measured], across: fn(&Measured) -> f64, up: f
     [true, false]
         .into_iter()
         .map(|plain| {
-            let ns = |m: &Measured| m.taken[usize::from(plain)].time.median;
+            let ns = |m: &Measured| if plain { m.plain() } else { m.library() }.time.median;
             Curve { which, plain, points: points.iter().map(|m| (across(m), up(m, ns(m)))).collect() }
         })
         .collect()

@@ -216,12 +216,15 @@ fn published(folder: &str, starts: &[&str], without: &[&str]) -> std::io::Result
     paths.iter().map(fs::read).collect()
 }
 
+/// Rule sets of cards.
+pub fn cards_alone() -> Vec<Workload> {
+    [48, 128, 256].map(|n| workload(&format!("card {n}"), &format!("10 rule sets of {n} variables"), cards(n, 10))).into()
+}
+
 /// `folder` has the published files.
 pub fn runs(folder: &str) -> std::io::Result<Vec<Workload>> {
-    Ok(vec![
-        workload("card 48", "10 rule sets of 48 variables", cards(48, 10)),
-        workload("card 128", "10 rule sets of 128 variables", cards(128, 10)),
-        workload("card 256", "10 rule sets of 256 variables", cards(256, 10)),
+    let mut all = cards_alone();
+    all.extend([
         workload("3-SAT 50, ratio 4.2", "10 random formulas of 50 variables", randoms(50, 420, 10)),
         workload("3-SAT 60, ratio 4.0", "4 random formulas of 60 variables", randoms(60, 400, 4)),
         workload("3-SAT 60, ratio 4.2", "4 random formulas of 60 variables", randoms(60, 420, 4)),
@@ -245,7 +248,8 @@ pub fn runs(folder: &str) -> std::io::Result<Vec<Workload>> {
         limited("published, adder", "CaDiCaL's add8, at most 10,000 tries", 10_000, published(folder, ADDER, &[])?),
         workload("most clauses", "1,024 clauses of two literals", published(folder, &["clauses_1024"], &[])?),
         workload("most entries", "1,024 clauses of three literals", published(folder, &["entries_4096"], &[])?),
-    ])
+    ]);
+    Ok(all)
 }
 
 // The published files: how the names of those by others start, and some of them.

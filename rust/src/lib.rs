@@ -2,8 +2,9 @@
 //!
 //! A card's rules are a DIMACS CNF text, one variable a switch. [`read`] takes the text, [`Formula::run`] works out the status of every
 //! switch, [`Formula::run_held`] the same where some choices are made, [`Formula::setup`] finds one valid setup, [`Formula::close`] says
-//! what follows at once, [`Formula::why`] which rules force a switch, [`Formula::witness`] has two setups that differ on a free one, and
-//! [`table`] prints the statuses as the program `table` does. What breaks the rules is refused: [`Refusal`] says by which rule and where. The answers are those of a proved library, which
+//! what follows at once, [`Formula::check_claims`] whether what another tool claims holds, [`Formula::why`] which rules force a switch, [`Formula::witness`] has two setups that differ on a free one,
+//! [`Formula::shorter`] writes a shorter text with the same setups, and [`table`] prints the statuses as the program `table` does. [`Groups::read`]
+//! takes switches with more than two positions. What breaks the rules is refused: [`Refusal`] says by which rule and where. The answers are those of a proved library, which
 //! this crate links; [`raw`] has its functions as they are.
 //!
 //! ```
@@ -20,24 +21,30 @@
 //! assert_eq!(run.settled(2), Some(Settled { status: Status::Free, call: 1, way: Way::Flip }));
 //! assert_eq!(card.witness(2, Limits::default())?, (vec![true, false], vec![true, true]));
 //! assert_eq!(card.close(&[2])?.set().collect::<Vec<_>>(), [(1, true), (2, true)]);
+//! assert_eq!(card.check_claims(b"2 1 -2 1 1 -2 1 2"), Ok(()));
 //! # Ok::<(), igbezolum::Refusal>(())
 //! ```
 
 #![deny(missing_docs, unsafe_code)]
 
+mod claims;
 mod close;
+mod groups;
 mod place;
 #[allow(unsafe_code)]
 pub mod raw;
 mod refusal;
 mod run;
+mod shorter;
 mod why;
 mod witness;
 
 pub use close::Closing;
+pub use groups::{groups_table, Groups, GroupsRefusal, GROUPS_MAX, GROUPS_TABLE_MAX};
 pub use place::Within;
 pub use refusal::Refusal;
 pub use run::{CallEnd, End, Limits, LogRow, Run, Settled, Setup, Status, Way};
+pub use shorter::Shorter;
 pub use why::{Choice, Found, Kept, Reason, Why};
 pub use witness::witness_text;
 

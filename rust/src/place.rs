@@ -10,11 +10,16 @@ const SHOWN: usize = 24;
 
 /// What is wrong, and what was expected.
 pub(crate) fn words(number: u32) -> (&'static str, &'static str) {
-    let of_line = |line: &'static str| {
-        let (n, rest) = line.split_once('|')?;
-        if n.parse() == Ok(number) { rest.split_once('|') } else { None }
-    };
-    WORDS.lines().find_map(of_line).expect("words.txt has a line for each refusal")
+    words_of(&number.to_string()).expect("words.txt has a line for each refusal")
+}
+
+/// The same of a file of groups, which has words of its own for some refusals.
+pub(crate) fn groups_words(number: u32) -> (&'static str, &'static str) {
+    words_of(&format!("groups {number}")).unwrap_or_else(|| words(number))
+}
+
+fn words_of(key: &str) -> Option<(&'static str, &'static str)> {
+    WORDS.lines().find_map(|line| line.strip_prefix(key)?.strip_prefix('|')?.split_once('|'))
 }
 
 /// A refusal beside the text that was refused; see [`Refusal::within`].
@@ -40,10 +45,11 @@ impl Refusal {
         Within { refusal: self, text }
     }
 
-    /// The line and the column of its place in the text, both from 1; columns are bytes. None for refusals that are of no text: 1 and from 10 on.
+    /// The line and the column of its place in the text, both from 1; columns are bytes. None for refusals that are of no text: 1
+    /// and 10 to 15.
     #[must_use]
     pub fn line_and_column(self, text: &[u8]) -> Option<(usize, usize)> {
-        if !(2..=9).contains(&self.number()) {
+        if !matches!(self.number(), 2..=9 | 17) {
             return None;
         }
         let before = &text[..self.place().min(text.len())];
@@ -58,7 +64,7 @@ impl fmt::Display for Within<'_> {
         let Within { refusal, text } = *self;
         let Some((line, column)) = refusal.line_and_column(text) else { return refusal.fmt(f) };
         write!(f, "line {line}, column {column}: ")?;
-        if (5..=8).contains(&refusal.number()) {
+        if matches!(refusal.number(), 5..=8 | 17) {
             write!(f, "`{}`: ", token(text, refusal.place()))?;
         }
         let (what, expected) = words(refusal.number());

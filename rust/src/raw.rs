@@ -63,8 +63,56 @@ pub struct Closing {
     pub set: u32,
 }
 
+/// What [`shorter`] answers; `include/igbezolum.h` has the same as `igb_shorter_report`.
+#[repr(C)]
+#[derive(Clone, Copy, Debug, Default, PartialEq, Eq)]
+pub struct ShorterReport {
+    /// 0 settled, 20 no model, 21 stopped, else the number of the refusal.
+    pub answer: u32,
+    /// The index of a refusal.
+    pub place: u32,
+    /// Calls begun; this and the rest are 0 if it is refused.
+    pub calls: u32,
+    /// Tries taken.
+    pub tries: u32,
+    /// Variables marked forced.
+    pub forced: u32,
+    /// Variables marked free.
+    pub free: u32,
+    /// Bytes of the text.
+    pub length: u32,
+}
+
+/// What [`read_groups`] answers; `include/igbezolum.h` has the same as `igb_groups`.
+#[repr(C)]
+#[derive(Clone, Copy, Debug, Default, PartialEq, Eq)]
+pub struct Groups {
+    /// 0 if the text is accepted, else the number of the refusal.
+    pub answer: u32,
+    /// The byte of a refusal.
+    pub place: u32,
+    /// Groups; this and the rest are 0 if the text is refused.
+    pub groups: u32,
+    /// Variables of the expanded list.
+    pub vars: u32,
+    /// Its clauses.
+    pub clauses: u32,
+    /// Its entries.
+    pub count: u32,
+}
+
+/// What [`check_claims`] answers; `include/igbezolum.h` has the same as `igb_verdict`.
+#[repr(C)]
+#[derive(Clone, Copy, Debug, Default, PartialEq, Eq)]
+pub struct Verdict {
+    /// 0 accepted, else the number of the refusal.
+    pub answer: u32,
+    /// The index or the byte of a refusal.
+    pub place: u32,
+}
+
 mod c {
-    use super::{Closing, Reading, Report, WhyReport};
+    use super::{Closing, Groups, Reading, Report, ShorterReport, Verdict, WhyReport};
 
     extern "C" {
         pub fn igb_read(text: *const u8, text_len: usize, entries: *mut i32, entries_len: usize) -> Reading;
@@ -106,6 +154,16 @@ mod c {
             values: *mut u8,
             values_len: usize,
         ) -> Closing;
+        pub fn igb_shorter(
+            entries: *const i32,
+            entries_len: usize,
+            vars: u32,
+            budget: u32,
+            chunk_limit: u32,
+            text: *mut u8,
+            text_len: usize,
+        ) -> ShorterReport;
+        pub fn igb_check_claims(entries: *const i32, entries_len: usize, vars: u32, text: *const u8, text_len: usize) -> Verdict;
         pub fn igb_why(
             entries: *const i32,
             entries_len: usize,
@@ -133,6 +191,15 @@ mod c {
         ) -> Report;
         pub fn igb_witness_text(text: *const u8, text_len: usize, variable: u32, out: *mut u8, out_len: usize) -> usize;
         pub fn igb_table(text: *const u8, text_len: usize, held: *const i32, held_len: usize, out: *mut u8, out_len: usize) -> usize;
+        pub fn igb_read_groups(
+            text: *const u8,
+            text_len: usize,
+            entries: *mut i32,
+            entries_len: usize,
+            sizes: *mut u8,
+            sizes_len: usize,
+        ) -> Groups;
+        pub fn igb_groups_table(text: *const u8, text_len: usize, out: *mut u8, out_len: usize) -> usize;
         pub fn igb_version() -> u32;
     }
 }
@@ -217,11 +284,38 @@ pub fn close(entries: &[i32], vars: u32, held: &[i32], values: &mut [u8]) -> Clo
     unsafe { c::igb_close(e, n, vars, k, m, values.as_mut_ptr(), values.len()) }
 }
 
+/// The shorter file of a list. If it is not refused, as many bytes are written at the start of the text as are answered.
+pub fn shorter(entries: &[i32], vars: u32, budget: u32, chunk_limit: u32, text: &mut [u8]) -> ShorterReport {
+    // SAFETY: as said above.
+    unsafe { c::igb_shorter(entries.as_ptr(), entries.len(), vars, budget, chunk_limit, text.as_mut_ptr(), text.len()) }
+}
+
+/// Whether a file of claims holds of a list.
+pub fn check_claims(entries: &[i32], vars: u32, text: &[u8]) -> Verdict {
+    // SAFETY: as said above.
+    unsafe { c::igb_check_claims(entries.as_ptr(), entries.len(), vars, text.as_ptr(), text.len()) }
+}
+
 /// Puts the table of a text with literals held at the start of a buffer and answers its length; 0, and nothing is written, if there is no
 /// room for 9,216 bytes.
 pub fn table(text: &[u8], held: &[i32], out: &mut [u8]) -> usize {
     // SAFETY: as said above.
     unsafe { c::igb_table(text.as_ptr(), text.len(), held.as_ptr(), held.len(), out.as_mut_ptr(), out.len()) }
+}
+
+/// Reads a file of groups. With 4,096 entries and 128 sizes or more the first ones are written: the expanded list and the sizes, each with zeros
+/// behind; with fewer, or after 2, nothing is.
+pub fn read_groups(text: &[u8], entries: &mut [i32], sizes: &mut [u8]) -> Groups {
+    let (e, n, s, m) = (entries.as_mut_ptr(), entries.len(), sizes.as_mut_ptr(), sizes.len());
+    // SAFETY: as said above.
+    unsafe { c::igb_read_groups(text.as_ptr(), text.len(), e, n, s, m) }
+}
+
+/// Puts the table of a file of groups at the start of a buffer and answers its length; 0, and nothing is written, if there is no room for 4,096
+/// bytes.
+pub fn groups_table(text: &[u8], out: &mut [u8]) -> usize {
+    // SAFETY: as said above.
+    unsafe { c::igb_groups_table(text.as_ptr(), text.len(), out.as_mut_ptr(), out.len()) }
 }
 
 /// The version of the library that is linked: 10,000 times the major number, 100 times the minor one and the patch number together.

@@ -13,7 +13,7 @@ use std::fmt;
 ///     match refusal {
 ///         ShortBuffer | LongText | BadHeader { .. } | LargeHeader { .. } | BadToken { .. } | TokenBehind { .. } => {}
 ///         TokenOverVars { .. } | ManyTokens { .. } | ShortText { .. } | BadLimits | BadList { .. } => {}
-///         EntryOverVars { .. } | BadLiteral { .. } | NotFree | ManyHeld => {}
+///         EntryOverVars { .. } | BadLiteral { .. } | NotFree | ManyHeld | Rejected { .. } => {}
 ///     }
 /// }
 /// ```
@@ -80,11 +80,16 @@ pub enum Refusal {
     NotFree,
     /// 15: over 256 held literals.
     ManyHeld,
+    /// 17: a file of claims that does not hold.
+    Rejected {
+        /// The first byte of the first number at fault, or the text's length if numbers are missing.
+        byte: usize,
+    },
 }
 
 use Refusal::{
-    BadHeader, BadLimits, BadList, BadLiteral, BadToken, EntryOverVars, LargeHeader, LongText, ManyHeld, ManyTokens, NotFree, ShortBuffer,
-    ShortText, TokenBehind, TokenOverVars,
+    BadHeader, BadLimits, BadList, BadLiteral, BadToken, EntryOverVars, LargeHeader, LongText, ManyHeld, ManyTokens, NotFree, Rejected,
+    ShortBuffer, ShortText, TokenBehind, TokenOverVars,
 };
 
 impl Refusal {
@@ -108,11 +113,12 @@ impl Refusal {
             13 => BadLiteral { index },
             14 => NotFree,
             15 => ManyHeld,
+            17 => Rejected { byte },
             _ => return None,
         })
     }
 
-    /// The number of the rule, 1 to 15.
+    /// The number of the rule, 1 to 15 or 17.
     #[must_use]
     pub fn number(self) -> u32 {
         match self {
@@ -131,10 +137,11 @@ impl Refusal {
             BadLiteral { .. } => 13,
             NotFree => 14,
             ManyHeld => 15,
+            Rejected { .. } => 17,
         }
     }
 
-    /// The place: a byte of the text (2 to 9), an index of the list (11, 12) or of the held literals (13, 15), else 0.
+    /// The place: a byte of the text (2 to 9, 17), an index of the list (11, 12) or of the held literals (13, 15), else 0.
     #[must_use]
     pub fn place(self) -> usize {
         match self {
@@ -146,7 +153,8 @@ impl Refusal {
             | TokenBehind { byte }
             | TokenOverVars { byte }
             | ManyTokens { byte }
-            | ShortText { byte } => byte,
+            | ShortText { byte }
+            | Rejected { byte } => byte,
             BadList { index } | EntryOverVars { index } | BadLiteral { index } => index,
             ManyHeld => crate::HELD_MAX,
         }

@@ -76,8 +76,8 @@ fn held_literals_are_refused() {
 
 #[test]
 fn numbers_and_variants_go_together() {
-    for answer in 1..=15 {
-        let refusal = Refusal::of(answer, 5).expect("1 to 15 are refusals");
+    for answer in (1..=15).chain([17]) {
+        let refusal = Refusal::of(answer, 5).expect("1 to 15 and 17 are refusals");
         assert_eq!(refusal.number(), answer);
         let place = match answer {
             1 | 10 | 14 => 0,

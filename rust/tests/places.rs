@@ -31,14 +31,15 @@ fn line_and_column() {
 
 #[test]
 fn every_refusal_has_words() {
-    for answer in 1..=15 {
-        let refusal = Refusal::of(answer, 5).expect("1 to 15 are refusals");
+    for answer in (1..=15).chain([17]) {
+        let refusal = Refusal::of(answer, 5).expect("1 to 15 and 17 are refusals");
         let plain = refusal.to_string();
         let words: Vec<&str> = plain.splitn(3, ": ").collect();
         assert_eq!(words[0], format!("refused {answer} place {}", refusal.place()));
         assert!(words.len() == 3 && words.iter().all(|part| !part.is_empty()), "{plain}");
-        assert_eq!(refusal.line_and_column(b"1\n2\n3\n").is_some(), (2..=9).contains(&answer));
-        if !(2..=9).contains(&answer) {
+        let of_text = (2..=9).contains(&answer) || answer == 17;
+        assert_eq!(refusal.line_and_column(b"1\n2\n3\n").is_some(), of_text);
+        if !of_text {
             assert_eq!(refusal.within(b"1\n2\n3\n").to_string(), plain);
         }
     }

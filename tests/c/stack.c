@@ -14,7 +14,7 @@ static int32_t entries[IGB_ENTRIES_LEN];
 static uint8_t status[IGB_STATUS_LEN], ways[IGB_WAYS_LEN], table[IGB_TABLE_LEN];
 static int32_t first[IGB_WITNESS_LEN], other[IGB_WITNESS_LEN];
 static uint32_t call_of[IGB_CALLS_LEN], hints[IGB_HINTS_LEN], log_rows[IGB_LOG_LEN];
-static uint8_t marks[IGB_MARKS_LEN], values[IGB_VALUES_LEN];
+static uint8_t marks[IGB_MARKS_LEN], values[IGB_VALUES_LEN], sizes[IGB_SIZES_LEN];
 
 static void *nothing(void *unused)
 {
@@ -62,6 +62,14 @@ static void *lines_deepest(void *unused)
     return unused;
 }
 
+static void *shorter_deepest(void *unused)
+{
+    static uint8_t text[IGB_SHORTER_LEN];
+    igb_shorter_report got = igb_shorter(entries, 0, 256, UINT32_MAX, 256, text, IGB_SHORTER_LEN);
+    CHECK(got.answer == IGB_OK && got.tries == 256 && got.length == 12, "the deepest shorter file");
+    return unused;
+}
+
 static void *table_deepest(void *unused)
 {
     CHECK(igb_table((const uint8_t *)"p cnf 256 0", 11, NULL, 0, table, IGB_TABLE_LEN) > 256, "the deepest table");
@@ -87,6 +95,60 @@ static void *close_longest(void *unused)
     static const int32_t held[] = {1};
     igb_closing got = igb_close(entries, n, 256, held, 1, values, IGB_VALUES_LEN);
     CHECK(got.answer == IGB_OK && got.rounds == 257 && got.set == 256, "the longest closing");
+    return unused;
+}
+
+/* As many groups as there may be; of a table of groups the deepest run has a try for each of them. */
+static const uint8_t *groups_text(size_t *len)
+{
+    static char text[IGB_TEXT_MAX];
+    *len = (size_t)sprintf(text, "%d", IGB_GROUPS_MAX);
+    for (int g = 0; g < IGB_GROUPS_MAX; g++)
+        *len += (size_t)sprintf(text + *len, " 2");
+    *len += (size_t)sprintf(text + *len, " 0");
+    return (const uint8_t *)text;
+}
+
+static void *groups_largest(void *unused)
+{
+    size_t len;
+    const uint8_t *text = groups_text(&len);
+    CHECK(igb_read_groups(text, len, entries, IGB_ENTRIES_LEN, sizes, IGB_SIZES_LEN).count == 768, "the most groups");
+    return unused;
+}
+
+static void *groups_table_deepest(void *unused)
+{
+    size_t len;
+    const uint8_t *text = groups_text(&len);
+    CHECK(igb_groups_table(text, len, table, IGB_GROUPS_TABLE_LEN) > 2560, "the deepest table of groups");
+    return unused;
+}
+
+/* A tree of 255 splits under the negation of 1, one below the other: clause 1 is all variables, and clause v has 1 and -v. */
+static void *claims_deepest(void *unused)
+{
+    static char text[8192];
+    size_t n = 0, at = 0;
+    for (int32_t v = 1; v <= 256; v++)
+        entries[n++] = v;
+    entries[n++] = 0;
+    for (int32_t v = 2; v <= 256; v++) {
+        entries[n++] = 1;
+        entries[n++] = -v;
+        entries[n++] = 0;
+    }
+    at += (size_t)sprintf(text + at, "256 1");
+    for (int32_t v = 2; v <= 256; v++)
+        at += (size_t)sprintf(text + at, " -%d", v);
+    at += (size_t)sprintf(text + at, " 1 1");
+    for (int32_t v = 2; v <= 256; v++)
+        at += (size_t)sprintf(text + at, " -%d", v);
+    at += (size_t)sprintf(text + at, " 1");
+    for (int32_t v = 256; v >= 2; v--)
+        at += (size_t)sprintf(text + at, " %d", v);
+    igb_verdict got = igb_check_claims(entries, n, 256, (const uint8_t *)text, at);
+    CHECK(got.answer == IGB_OK && got.place == 0, "the deepest claims");
     return unused;
 }
 
@@ -120,8 +182,9 @@ int main(void)
         const char *name;
         void *(*call)(void *);
     } calls[] = {{"a thread alone", nothing}, {"igb_read", read_largest}, {"igb_run", run_deepest}, {"igb_setup", setup_deepest},
-                 {"igb_close", close_longest}, {"igb_why", why_deepest}, {"igb_witness", witness_deepest}, {"igb_witness_text", lines_deepest},
-                 {"igb_table", table_deepest}};
+                 {"igb_close", close_longest}, {"igb_check_claims", claims_deepest}, {"igb_why", why_deepest}, {"igb_witness", witness_deepest},
+                 {"igb_witness_text", lines_deepest}, {"igb_shorter", shorter_deepest}, {"igb_table", table_deepest}, {"igb_read_groups", groups_largest},
+                 {"igb_groups_table", groups_table_deepest}};
     for (size_t i = 0; i < sizeof calls / sizeof *calls; i++) {
         size_t bytes = used(calls[i].call, LARGE);
         CHECK(bytes < IGB_STACK_BYTES, calls[i].name);

@@ -1,6 +1,6 @@
 //! A case: one call of the library and the seed of the paint of its buffers. As a file it is lines of a word and what it is:
 //!
-//!   call run           or read, setup, close, why, witness, lines, or table
+//!   call run           or read, setup, close, why, witness, shorter, lines, table, groups, or groups_table
 //!   paint 1
 //!   vars 3             run and setup: variables, budget, and the list
 //!   budget 100
@@ -18,8 +18,9 @@
 //!   variable 3         witness: this, lengths of the buffers, and vars, held, budget, chunk_limit and entries as above
 //!   first_len 3
 //!   witness_len 3
-//!   room 9216          read, table and lines (with a variable too): length of the buffer, and the text, with \n \t \r \\ and \xHH for what is not
-//!                      printed
+//!   room 9216          shorter: length of the buffer, and vars, budget, chunk_limit and entries as above; read, table, lines (with a variable too), groups
+//!                      and groups_table: this and the text, with \n \t \r \\ and \xHH for what is not printed
+//!   sizes_len 128      groups: length of the second buffer
 //!   text p cnf 1 1\n1 0\n
 
 use std::collections::BTreeMap;
@@ -31,6 +32,9 @@ pub const MAX_TABLE: usize = 9_216;
 
 /// The least room that both lines of a witness are put into.
 pub const MAX_LINES: usize = 4_096;
+
+/// The least room that a table of groups is put into.
+pub const MAX_GROUPS_TABLE: usize = 4_096;
 
 /// The lengths of the buffers that a run is lent.
 #[derive(Clone, Copy)]
@@ -59,8 +63,11 @@ pub enum Call {
         witness_len: usize,
     },
     Why { entries: Vec<i32>, vars: u32, literal: i32, budget: u32, marks_len: usize, values_len: usize },
+    Shorter { entries: Vec<i32>, vars: u32, budget: u32, chunk_limit: u32, room: usize },
     Table { text: Vec<u8>, held: Vec<i32>, room: usize },
     Lines { text: Vec<u8>, variable: u32, room: usize },
+    Groups { text: Vec<u8>, room: usize, sizes_len: usize },
+    GroupsTable { text: Vec<u8>, room: usize },
 }
 
 #[derive(Clone)]
@@ -78,8 +85,11 @@ impl Call {
             Call::Close { .. } => "close",
             Call::Why { .. } => "why",
             Call::Witness { .. } => "witness",
+            Call::Shorter { .. } => "shorter",
             Call::Table { .. } => "table",
             Call::Lines { .. } => "lines",
+            Call::Groups { .. } => "groups",
+            Call::GroupsTable { .. } => "groups_table",
         }
     }
 }
@@ -130,6 +140,8 @@ impl fmt::Display for Case {
         writeln!(f, "call {}\npaint {}", self.call.name(), self.paint)?;
         match &self.call {
             Call::Read { text, room } => writeln!(f, "room {room}\ntext {}", escaped(text)),
+            Call::Groups { text, room, sizes_len } => writeln!(f, "room {room}\nsizes_len {sizes_len}\ntext {}", escaped(text)),
+            Call::GroupsTable { text, room } => writeln!(f, "room {room}\ntext {}", escaped(text)),
             Call::Table { text, held, room } => writeln!(f, "room {room}\nheld {}\ntext {}", words(held), escaped(text)),
             Call::Lines { text, variable, room } => writeln!(f, "variable {variable}\nroom {room}\ntext {}", escaped(text)),
             Call::Run { entries, vars, held, budget, chunk_limit, lengths: Lengths { status, calls, ways, hints, log } } => {
@@ -147,6 +159,9 @@ impl fmt::Display for Case {
             Call::Witness { entries, vars, held, budget, chunk_limit, variable, first_len, witness_len } => {
                 writeln!(f, "vars {vars}\nbudget {budget}\nchunk_limit {chunk_limit}\nvariable {variable}")?;
                 writeln!(f, "first_len {first_len}\nwitness_len {witness_len}\nheld {}\nentries {}", words(held), words(entries))
+            }
+            Call::Shorter { entries, vars, budget, chunk_limit, room } => {
+                writeln!(f, "vars {vars}\nbudget {budget}\nchunk_limit {chunk_limit}\nroom {room}\nentries {}", words(entries))
             }
             Call::Why { entries, vars, literal, budget, marks_len, values_len } => {
                 writeln!(f, "vars {vars}\nliteral {literal}\nbudget {budget}\nmarks_len {marks_len}\nvalues_len {values_len}")?;
@@ -172,6 +187,8 @@ impl FromStr for Case {
             "read" => Call::Read { text: text()?, room: number(word("room")?)? },
             "table" => Call::Table { text: text()?, held: held()?, room: number(word("room")?)? },
             "lines" => Call::Lines { text: text()?, variable: number(word("variable")?)?, room: number(word("room")?)? },
+            "groups" => Call::Groups { text: text()?, room: number(word("room")?)?, sizes_len: number(word("sizes_len")?)? },
+            "groups_table" => Call::GroupsTable { text: text()?, room: number(word("room")?)? },
             "setup" => Call::Setup {
                 entries: list(word("entries")?)?,
                 vars: number(word("vars")?)?,
@@ -208,6 +225,13 @@ impl FromStr for Case {
                 variable: number(word("variable")?)?,
                 first_len: number(word("first_len")?)?,
                 witness_len: number(word("witness_len")?)?,
+            },
+            "shorter" => Call::Shorter {
+                entries: list(word("entries")?)?,
+                vars: number(word("vars")?)?,
+                budget: number(word("budget")?)?,
+                chunk_limit: number(word("chunk_limit")?)?,
+                room: number(word("room")?)?,
             },
             "why" => Call::Why {
                 entries: list(word("entries")?)?,

@@ -2,10 +2,12 @@
 //! are painted before the call; everything is compared, guards too. A fault can be put into what the library gave, to show that it is
 //! noticed. Runs, setups, closings and witnesses that are not refused are made a second time with the same rules in another order.
 
-use crate::case::{Call, Case, MAX_LINES, MAX_TABLE};
+use crate::case::{Call, Case, MAX_GROUPS_TABLE, MAX_LINES, MAX_TABLE};
 use crate::close;
+use crate::groups;
 use crate::raw;
 use crate::rules::{self, Given};
+use crate::shorter::{self, ShorterGiven};
 use crate::shuffle;
 use crate::texts::Random;
 use crate::why::{self, WhyGiven};
@@ -45,18 +47,21 @@ pub fn faults() -> Vec<String> {
     all.extend(["answer", "place", "rounds", "set"].map(|n| format!("close.{n}")));
     all.extend(["answer", "place", "calls", "tries"].map(|n| format!("why.{n}")));
     all.extend(["answer", "place", "calls", "tries", "forced", "free"].map(|n| format!("witness.{n}")));
-    all.extend(["table.length".to_string(), "lines.length".to_string()]);
+    all.extend(["answer", "place", "calls", "tries", "forced", "free", "length", "promises", "again"].map(|n| format!("shorter.{n}")));
+    all.extend(["answer", "place", "groups", "vars", "clauses", "count"].map(|n| format!("groups.{n}")));
+    all.extend(["table.length".to_string(), "lines.length".to_string(), "groups_table.length".to_string()]);
     for name in [
         "read.entries", "run.status", "run.calls", "run.ways", "run.hints", "run.log", "setup.values", "close.values", "why.marks",
-        "why.values", "witness.first", "witness.witness", "table.out", "lines.out",
+        "why.values", "witness.first", "witness.witness", "shorter.text", "table.out", "lines.out", "groups.entries", "groups.sizes",
+        "groups_table.out",
     ] {
         all.extend(["before", "first", "last", "behind"].map(|place| format!("{name}.{place}")));
     }
     let lists = [
         "read.text", "run.list", "run.held", "setup.list", "setup.held", "close.list", "close.held", "why.list", "witness.list", "witness.held",
-        "table.text", "table.held", "lines.text",
+        "shorter.list", "table.text", "table.held", "lines.text", "groups.text", "groups_table.text",
     ];
-    for name in lists.into_iter().chain(["run.models", "setup.models", "close.models"]) {
+    for name in lists.into_iter().chain(["run.models", "setup.models", "close.models", "groups_table.setups"]) {
         all.extend(["first", "last"].map(|place| format!("{name}.{place}")));
     }
     // in the other order every number, and of each buffer the first place: the comparison is the same
@@ -366,6 +371,46 @@ fn witness(r: &mut Random, g: &WitnessGiven) -> (Seen, Seen) {
     (got, want)
 }
 
+fn shortened(r: &mut Random, g: &ShorterGiven) -> (Seen, Seen) {
+    let (mut got, mut want) = (Seen::default(), Seen::default());
+    let before = painted(r, g.room, |x| x as u8);
+    let mut text = before.clone();
+    let lent = Box::<[i32]>::from(g.entries);
+    let x = raw::shorter(&lent, g.vars, g.budget, g.chunk_limit, &mut text[GUARD..GUARD + g.room]);
+    let (numbers, new) = match shorter::shorter(g) {
+        Err((answer, place)) => ([answer as usize, place, 0, 0, 0, 0, 0], String::new()),
+        Ok((run, text)) => {
+            ([run.answer as usize, 0, run.log.len(), run.tries as usize, run.forced(), run.free(), text.len()], text)
+        }
+    };
+    let names = [
+        "shorter.answer", "shorter.place", "shorter.calls", "shorter.tries", "shorter.forced", "shorter.free", "shorter.length",
+    ];
+    for ((name, x), n) in names.into_iter().zip([x.answer, x.place, x.calls, x.tries, x.forced, x.free, x.length]).zip(numbers) {
+        got.number(name, x);
+        want.number(name, n as i64);
+    }
+    got.buffer("shorter.text", &text, new.len());
+    want.buffer("shorter.text", &written(&before, new.as_bytes()), new.len());
+    kept("shorter.list", g.entries, &lent, &mut got, &mut want);
+    if matches!(x.answer, 0 | 20 | 21) {
+        let text = &text[GUARD..GUARD + new.len()];
+        got.number("shorter.promises", i64::from(shorter::fault_of_text(g, x.answer, text, g.vars <= FEW).is_some()));
+        want.number("shorter.promises", 0);
+        got.number("shorter.again", i64::from(x.answer == 0 && !is_fixed(g, text)));
+        want.number("shorter.again", 0);
+    }
+    (got, want)
+}
+
+/// Whether the library's shorter file of this shorter file is itself, where its run is not stopped.
+fn is_fixed(g: &ShorterGiven, text: &[u8]) -> bool {
+    let Ok(f) = rules::read(text) else { return false };
+    let mut again = vec![0; rules::MAX_TEXT];
+    let x = raw::shorter(&f.entries, f.vars as u32, g.budget, g.chunk_limit, &mut again);
+    x.answer == 21 || x.answer == 0 && &again[..x.length as usize] == text
+}
+
 fn table(r: &mut Random, text: &[u8], held: &[i32], room: usize) -> (Seen, Seen) {
     let (mut got, mut want) = (Seen::default(), Seen::default());
     let before = painted(r, room, |x| x as u8);
@@ -397,6 +442,64 @@ fn lines(r: &mut Random, text: &[u8], variable: u32, room: usize) -> (Seen, Seen
     (got, want)
 }
 
+fn read_groups(r: &mut Random, text: &[u8], room: usize, sizes_len: usize) -> (Seen, Seen) {
+    let (mut got, mut want) = (Seen::default(), Seen::default());
+    let entries_before = painted(r, room, |x| x as i32);
+    let sizes_before = painted(r, sizes_len, |x| x as u8);
+    let (mut entries, mut sizes) = (entries_before.clone(), sizes_before.clone());
+    let lent = Box::<[u8]>::from(text);
+    let x = raw::read_groups(&lent, &mut entries[GUARD..GUARD + room], &mut sizes[GUARD..GUARD + sizes_len]);
+    let short = room < rules::MAX_ENTRIES || sizes_len < groups::MAX_GROUPS;
+    let (mut list, mut new_sizes) = (vec![0; rules::MAX_ENTRIES], vec![0; groups::MAX_GROUPS]);
+    let numbers = match if short { Err((1, 0)) } else { groups::read(text) } {
+        Err((answer, place)) => {
+            if answer <= 2 {
+                list.clear();
+                new_sizes.clear();
+            }
+            [answer as usize, place, 0, 0, 0, 0]
+        }
+        Ok(g) => {
+            list[..g.list.entries.len()].copy_from_slice(&g.list.entries);
+            new_sizes[..g.sizes.len()].copy_from_slice(&g.sizes);
+            [0, 0, g.sizes.len(), g.list.vars, g.list.clauses, g.list.entries.len()]
+        }
+    };
+    let names = ["groups.answer", "groups.place", "groups.groups", "groups.vars", "groups.clauses", "groups.count"];
+    for ((name, x), n) in names.into_iter().zip([x.answer, x.place, x.groups, x.vars, x.clauses, x.count]).zip(numbers) {
+        got.number(name, x);
+        want.number(name, n as i64);
+    }
+    got.buffer("groups.entries", &entries, list.len());
+    want.buffer("groups.entries", &written(&entries_before, &list), list.len());
+    got.buffer("groups.sizes", &sizes, new_sizes.len());
+    want.buffer("groups.sizes", &written(&sizes_before, &new_sizes), new_sizes.len());
+    kept("groups.text", text, &lent, &mut got, &mut want);
+    (got, want)
+}
+
+/// The table of groups; where there are few setups, what is said of the values is also what all of them say.
+fn groups_table(r: &mut Random, text: &[u8], room: usize) -> (Seen, Seen) {
+    let (mut got, mut want) = (Seen::default(), Seen::default());
+    let before = painted(r, room, |x| x as u8);
+    let mut out = before.clone();
+    let lent = Box::<[u8]>::from(text);
+    let length = raw::groups_table(&lent, &mut out[GUARD..GUARD + room]);
+    let expected = if room < MAX_GROUPS_TABLE { String::new() } else { groups::table(text) };
+    got.number("groups_table.length", length as i64);
+    want.number("groups_table.length", expected.len() as i64);
+    got.buffer("groups_table.out", &out, expected.len());
+    want.buffer("groups_table.out", &written(&before, expected.as_bytes()), expected.len());
+    kept("groups_table.text", text, &lent, &mut got, &mut want);
+    if expected.starts_with("answer 0 ") || expected.starts_with("answer 20 ") {
+        if let Some(lines) = groups::read(text).ok().and_then(|g| groups::by_setups(&g)) {
+            let first = expected.find('\n').map_or(0, |n| n + 1);
+            kept("groups_table.setups", lines.as_bytes(), &out[GUARD + first..GUARD + expected.len()], &mut got, &mut want);
+        }
+    }
+    (got, want)
+}
+
 /// What the library gives for a call, and what the rules say; the paint of the buffers is of this seed.
 fn seen(paint: u64, call: &Call) -> (Seen, Seen) {
     let mut r = Random::of_seed(paint);
@@ -414,8 +517,13 @@ fn seen(paint: u64, call: &Call) -> (Seen, Seen) {
         }
         &Call::Setup { ref entries, vars, ref held, budget, values_len } => setup(&mut r, entries, vars, held, budget, values_len),
         &Call::Close { ref entries, vars, ref held, values_len } => closing(&mut r, entries, vars, held, values_len),
+        &Call::Shorter { ref entries, vars, budget, chunk_limit, room } => {
+            shortened(&mut r, &ShorterGiven { entries, vars, budget, chunk_limit, room })
+        }
         Call::Table { text, held, room } => table(&mut r, text, held, *room),
         Call::Lines { text, variable, room } => lines(&mut r, text, *variable, *room),
+        Call::Groups { text, room, sizes_len } => read_groups(&mut r, text, *room, *sizes_len),
+        Call::GroupsTable { text, room } => groups_table(&mut r, text, *room),
     }
 }
 

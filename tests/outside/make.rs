@@ -1,8 +1,10 @@
 //! Cases: those at the edges of the rules, always the same, and cases at random.
 
-use crate::case::{Call, Lengths, MAX_LINES, MAX_TABLE};
+use crate::case::{Call, Lengths, MAX_GROUPS_TABLE, MAX_LINES, MAX_TABLE};
+use crate::groups::MAX_GROUPS;
 use crate::rules::{self, Given, MAX_CLAUSES, MAX_ENTRIES, MAX_HELD, MAX_TEXT, MAX_VARS};
 use crate::texts::{random_held, random_text, some_literals, text_of, with_comments, with_percent, Random};
+use crate::shorter::{self, ShorterGiven};
 use crate::why::{self, WhyGiven};
 use crate::witness::{self, WitnessGiven};
 
@@ -204,6 +206,15 @@ fn random_closing(r: &mut Random) -> Call {
     Call::Close { entries, vars, held, values_len }
 }
 
+/// The shorter file, for a list in texts of every interesting length, with limits at the edges.
+fn edge_shorters(list: &[i32], vars: u32, calls: &mut Vec<Call>) {
+    for room in [MAX_TEXT, MAX_TEXT + 5, MAX_TEXT - 1, 0] {
+        for (budget, chunk_limit) in [(100, 2), (0, 1), (2, 16), (u32::MAX, 256), (100, 0), (100, 257)] {
+            calls.push(Call::Shorter { entries: list.to_vec(), vars, budget, chunk_limit, room });
+        }
+    }
+}
+
 pub fn edges() -> Vec<Call> {
     let mut calls = Vec::new();
     chains(&mut calls);
@@ -216,6 +227,7 @@ pub fn edges() -> Vec<Call> {
     for (list, vars) in edge_lists() {
         edge_whys(&list, vars, &mut calls);
         edge_witnesses(&list, vars, &mut calls);
+        edge_shorters(&list, vars, &mut calls);
         // the longest buffers that a run could ask for, and a little more, where the variables are too many
         let (vs, log) = (vars.min(300) as usize, log_of(vars.min(300)));
         let less = vs.max(1) - 1;
@@ -236,6 +248,7 @@ pub fn edges() -> Vec<Call> {
             }
         }
     }
+    edge_groups(&mut calls);
     calls
 }
 
@@ -343,6 +356,21 @@ fn large_witness(r: &mut Random) -> Call {
     exact_witness(entries, vars, held, r.below(2_000) as u32, one_of(r, &LIMITS), variable)
 }
 
+/// A small formula's shorter file, with budgets from none to more than enough.
+fn every_shorter(r: &mut Random, calls: &mut Vec<Call>) {
+    let vars = r.below(11) as u32;
+    let clauses = r.below(4 * u64::from(vars) + 3);
+    let entries = random_list(r, vars, clauses);
+    let chunk_limit = one_of(r, &LIMITS);
+    let given = ShorterGiven { entries: &entries, vars, budget: u32::MAX, chunk_limit, room: MAX_TEXT };
+    let needed = shorter::shorter(&given).expect("the list keeps the rules").0.tries as u32;
+    for budget in (0..=needed + 1).step_by(1 + needed as usize / 4).chain([needed, u32::MAX]) {
+        let mut room = MAX_TEXT;
+        stretch(r, &mut room);
+        calls.push(Call::Shorter { entries: entries.clone(), vars, budget, chunk_limit, room });
+    }
+}
+
 /// A small formula, all of its literals and every budget from none to more than enough.
 fn every_literal(r: &mut Random, calls: &mut Vec<Call>) {
     let vars = 1 + r.below(8) as u32;
@@ -423,7 +451,7 @@ fn large(r: &mut Random) -> Call {
     exact(entries, vars, held, r.below(most) as u32, one_of(r, &LIMITS))
 }
 
-/// A run, a setup or a closing with one to three things changed so that it may be refused.
+/// A run, a setup, a closing or a shorter file with one to three things changed so that it may be refused.
 fn refused(r: &mut Random) -> Call {
     let vars = if r.below(4) == 0 { r.below(257) as u32 } else { r.below(6) as u32 };
     let clauses = r.below(8);
@@ -469,11 +497,12 @@ fn refused(r: &mut Random) -> Call {
             }
         }
     }
-    let Call::Run { entries, vars, held, budget, lengths, .. } = &call else { unreachable!("it is a run") };
+    let Call::Run { entries, vars, held, budget, chunk_limit, lengths } = &call else { unreachable!("it is a run") };
     let (entries, held, values_len) = (entries.clone(), held.clone(), lengths.status);
     match r.below(8) {
         0 | 1 => Call::Setup { entries, vars: *vars, held, budget: *budget, values_len },
         2 => Call::Close { entries, vars: *vars, held, values_len },
+        3 => Call::Shorter { entries, vars: *vars, budget: *budget, chunk_limit: *chunk_limit, room: MAX_TEXT - (r.below(8) / 7) as usize },
         _ => call,
     }
 }
@@ -576,6 +605,90 @@ fn some_text(r: &mut Random, calls: &mut Vec<Call>) {
     calls.push(Call::Lines { text, variable: r.below(8) as u32, room: lines });
 }
 
+// ---- groups
+
+/// A file of groups in buffers of every interesting length.
+fn groups_in_all_rooms(text: &[u8], calls: &mut Vec<Call>) {
+    for (room, sizes_len) in [(4_096, 128), (4_100, 131), (4_095, 128), (4_096, 127), (0, 0)] {
+        calls.push(Call::Groups { text: text.to_vec(), room, sizes_len });
+    }
+    for room in [4_096, 4_095, 5_000, 0] {
+        calls.push(Call::GroupsTable { text: text.to_vec(), room });
+    }
+}
+
+/// Each refusal at its edges: 128 and 129 groups, sizes 1, 2, 16 and 17, 256 and 257 variables, 1,024 and 1,025 clauses, and expanded lists that
+/// just fit and that do not.
+fn edge_groups(calls: &mut Vec<Call>) {
+    let times = |n: usize, word: &str| word.repeat(n);
+    let mut texts: Vec<String> = [
+        "", " \n", "0", "0 0", "0 1 0", "0 1 1 0", "1 2 0", "1 2 0 0", "1 1 0", "1 2 1 1 0", "1 16 0", "1 17 0", "-1", "-0", "1 -2 0", "129", "128", "c 0 0",
+        "0 0 %", "0 0\nc", "1 2 x", "1 2 1025", "1 2 1024", "1 2 -1", "1 2 1 1 -2", "1 2 1 1 -2 0", "1 2 1 3 0", "1 2 1 -3 0", "1 2 1 0 9", "1 2 1 0 x",
+        "2 2 2 2 -1 0 -2 0", "2\t3\r\n2 2 -1 0 5 0\n", "3 2 2 2 3 1 3 0 -1 -3 0 5 0", "0000000001 2 0", "000000001 2 0", "1 000000002 0", "1 2 1 1000000000 0",
+    ]
+    .map(str::to_string)
+    .to_vec();
+    texts.push(format!("128{} 0", times(128, " 2")));
+    texts.push(format!("129{} 0", times(129, " 2")));
+    texts.push(format!("17{} 2 0", times(16, " 16")));
+    texts.push(format!("17{} 1 0", times(16, " 16")));
+    texts.push(format!("16{} 0", times(16, " 16")));
+    for (clauses, zeros) in [(56, 56), (57, 57), (57, 56), (56, 57), (1_024, 1_024)] {
+        texts.push(format!("8{} {clauses} {}", times(8, " 16"), times(zeros, "0 ")));
+    }
+    // 3,016 entries of groups: 1,080 more fit in 1 clause, and 1,081 do not
+    for ones in [1_079, 1_080, 1_081] {
+        texts.push(format!("8{} 1 {}0", times(8, " 16"), times(ones, "1 ")));
+    }
+    // more than 4,096 entries, and a refusal behind them
+    texts.push(format!("9{} 1 {}x", times(9, " 16"), times(2_000, "1 ")));
+    texts.push(format!("9{} 1 {}", times(9, " 16"), times(2_000, "1 ")));
+    texts.push(format!("9{} 1 {}257 0", times(9, " 16"), times(2_000, "1 ")));
+    texts.push(format!("9{} 1 0 1", times(9, " 16")));
+    texts.push(format!("9{} 0", times(9, " 16")));
+    for text in texts {
+        groups_in_all_rooms(text.as_bytes(), calls);
+    }
+    for len in [MAX_TEXT, MAX_TEXT + 1] {
+        let mut text = b"1 2 1 -1 0".to_vec();
+        text.resize(len, b' ');
+        groups_in_all_rooms(&text, calls);
+    }
+}
+
+/// A file of groups at random, now and then damaged.
+fn some_groups(r: &mut Random, calls: &mut Vec<Call>) {
+    let count = r.below(5);
+    let sizes: Vec<u64> = (0..count).map(|_| if r.below(8) == 0 { 2 + r.below(15) } else { 2 + r.below(3) }).collect();
+    let vars: u64 = sizes.iter().sum();
+    let clauses = r.below(2 * vars + 2);
+    let list = random_list(r, vars as u32, clauses);
+    let mut number = list.iter().filter(|&&e| e == 0).count();
+    match r.below(24) {
+        0 => number += 1,
+        1 => number = number.saturating_sub(1),
+        _ => {}
+    }
+    let words = [vec![count as i64], sizes.iter().map(|&n| n as i64).collect(), vec![number as i64], list.iter().map(|&e| e.into()).collect()].concat();
+    let mut text = String::new();
+    for word in words {
+        text.push_str(&word.to_string());
+        text.push_str(one_of(r, &[" ", "\n", "\t", "\r\n", "  "]));
+    }
+    let mut text = text.into_bytes();
+    if r.below(3) == 0 {
+        for _ in 0..=r.below(3) {
+            damaged(r, &mut text);
+        }
+    }
+    let (mut room, mut sizes_len, mut table) = (MAX_ENTRIES, MAX_GROUPS, MAX_GROUPS_TABLE);
+    stretch(r, &mut room);
+    stretch(r, &mut sizes_len);
+    stretch(r, &mut table);
+    calls.push(Call::Groups { text: text.clone(), room, sizes_len });
+    calls.push(Call::GroupsTable { text, room: table });
+}
+
 /// The calls of one case at random.
 pub fn random_calls(r: &mut Random) -> Vec<Call> {
     let mut calls = Vec::new();
@@ -583,12 +696,19 @@ pub fn random_calls(r: &mut Random) -> Vec<Call> {
         0 => calls.push(large(r)),
         1 => calls.push(large_why(r)),
         2 => calls.push(large_witness(r)),
+        36 => {
+            if let Call::Run { entries, vars, budget, chunk_limit, .. } = large(r) {
+                calls.push(Call::Shorter { entries, vars, budget, chunk_limit, room: MAX_TEXT });
+            }
+        }
+        37..=39 => every_shorter(r, &mut calls),
         3..=6 => every_variable(r, &mut calls),
         x if x < 12 => every_budget(r, &mut calls),
         x if x < 16 => every_literal(r, &mut calls),
         x if x < 26 => calls.push(refused(r)),
         x if x < 32 => calls.push(refused_why(r)),
         x if x < 36 => calls.push(random_closing(r)),
+        x if x < 44 => some_groups(r, &mut calls),
         _ => some_text(r, &mut calls),
     }
     calls

@@ -12,12 +12,18 @@
 mod case;
 #[path = "../reference/close.rs"]
 mod close;
+#[path = "../reference/groups.rs"]
+mod groups;
 mod judge;
 mod make;
+// claims are compared by claims.rs beside this
+#[allow(dead_code)]
 #[path = "../../rust/src/raw.rs"]
 mod raw;
 #[path = "../reference/rules.rs"]
 mod rules;
+#[path = "../reference/shorter.rs"]
+mod shorter;
 mod shrink;
 mod shuffle;
 #[path = "../reference/texts.rs"]
@@ -36,13 +42,15 @@ use judge::judge;
 use texts::Random;
 
 /// The answers that must have been given at least once.
-const ANSWERS: [(&str, &[i64]); 6] = [
+const ANSWERS: [(&str, &[i64]); 8] = [
     ("read", &[0, 1, 2, 3, 4, 5, 6, 7, 8, 9]),
     ("run", &[0, 1, 10, 11, 12, 13, 15, 20, 21]),
     ("setup", &[0, 1, 10, 11, 12, 13, 15, 20, 21]),
     ("close", &[0, 1, 10, 11, 12, 13, 15, 20]),
     ("why", &[0, 1, 10, 11, 12, 13, 20, 21, 22]),
     ("witness", &[0, 1, 10, 11, 12, 14, 21]),
+    ("shorter", &[0, 1, 10, 11, 12, 20, 21]),
+    ("groups", &[0, 1, 2, 4, 5, 6, 7, 9, 11, 16]),
 ];
 
 /// What was judged so far: how often each answer was given.
@@ -57,7 +65,7 @@ impl Judged<'_> {
     fn is_same(&mut self, name: &str, case: &Case) -> bool {
         let (answer, difference) = judge(case, self.fault);
         // of a table the length says only whether there was room
-        let answer = if case.call.name() == "table" { answer.min(1) } else { answer };
+        let answer = if ["table", "groups_table"].contains(&case.call.name()) { answer.min(1) } else { answer };
         *self.given.entry((case.call.name(), answer)).or_default() += 1;
         let Some(what) = difference else { return true };
         println!("{name} differs: {what}");
@@ -84,10 +92,12 @@ impl Judged<'_> {
             let line: Vec<String> = self.given.iter().filter(|(k, _)| k.0 == call).map(|(k, n)| format!("{} {n} times", k.1)).collect();
             println!("{call} answered {}", line.join(", "));
         }
-        let table = |long| self.given.get(&("table", long)).copied().unwrap_or(0);
-        println!("table printed {} times and had too little room {} times", table(1), table(0));
+        let printed = |name, long| self.given.get(&(name, long)).copied().unwrap_or(0);
+        for name in ["table", "groups_table"] {
+            println!("{name} printed {} times and had too little room {} times", printed(name, 1), printed(name, 0));
+        }
         let missing = |(call, answers): &(&'static str, &[i64])| answers.iter().any(|&a| !self.given.contains_key(&(*call, a)));
-        !ANSWERS.iter().any(missing) && table(0) > 0 && table(1) > 0
+        !ANSWERS.iter().any(missing) && ["table", "groups_table"].iter().all(|name| printed(name, 0) > 0 && printed(name, 1) > 0)
     }
 }
 

@@ -71,11 +71,21 @@ fn smaller_texts(text: &[u8], held: &[i32]) -> Vec<(Vec<u8>, Vec<i32>)> {
 fn smaller(call: &Call) -> Vec<Call> {
     match call {
         Call::Read { text, room } => smaller_texts(text, &[]).into_iter().map(|(text, _)| Call::Read { text, room: *room }).collect(),
+        &Call::Groups { ref text, room, sizes_len } => cuts(text).into_iter().map(|text| Call::Groups { text, room, sizes_len }).collect(),
+        Call::GroupsTable { text, room } => cuts(text).into_iter().map(|text| Call::GroupsTable { text, room: *room }).collect(),
         &Call::Lines { ref text, variable, room } => {
             smaller_texts(text, &[]).into_iter().map(|(text, _)| Call::Lines { text, variable, room }).collect()
         }
         Call::Table { text, held, room } => {
             smaller_texts(text, held).into_iter().map(|(text, held)| Call::Table { text, held, room: *room }).collect()
+        }
+        &Call::Shorter { ref entries, vars, budget, chunk_limit, room } => {
+            let with = |(vars, entries, _): Held, budget, chunk_limit| Call::Shorter { entries, vars, budget, chunk_limit, room };
+            let same = || (vars, entries.clone(), Vec::new());
+            let mut all: Vec<Call> = lists(vars, entries, &[]).into_iter().map(|less| with(less, budget, chunk_limit)).collect();
+            all.extend(budgets(budget).map(|less| with(same(), less, chunk_limit)));
+            all.extend((chunk_limit > 1).then(|| with(same(), budget, chunk_limit / 2)));
+            all
         }
         Call::Why { entries, vars, literal, budget, marks_len, values_len } => {
             let (vars, literal, budget, marks_len, values_len) = (*vars, *literal, *budget, *marks_len, *values_len);

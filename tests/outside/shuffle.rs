@@ -61,7 +61,8 @@ fn other_held(r: &mut Random, held: &[i32]) -> Vec<i32> {
     other
 }
 
-/// A call whose list was accepted with its rules in another order; none for a call that has no list, or that answers by clauses.
+/// A call whose list was accepted with its rules in another order; none for a call that has no list, or that answers by clauses or writes
+/// them.
 pub fn shuffled(r: &mut Random, call: &Call) -> Option<Call> {
     let mut other = call.clone();
     match &mut other {
@@ -72,7 +73,13 @@ pub fn shuffled(r: &mut Random, call: &Call) -> Option<Call> {
             *entries = other_entries(r, entries);
             *held = other_held(r, held);
         }
-        Call::Read { .. } | Call::Why { .. } | Call::Table { .. } | Call::Lines { .. } => return None,
+        Call::Read { .. }
+        | Call::Why { .. }
+        | Call::Shorter { .. }
+        | Call::Table { .. }
+        | Call::Lines { .. }
+        | Call::Groups { .. }
+        | Call::GroupsTable { .. } => return None,
     }
     Some(other)
 }

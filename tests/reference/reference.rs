@@ -16,10 +16,14 @@
 //!   reference --witness PROGRAM FILE...       PROGRAM, started with a variable, must print two models as `witness.rs` does, which make all
 //!                                             clauses true and differ on the variable, for some variables of each file
 //!   reference --witness-random PROGRAM SEED N     the same for N texts made from SEED
+//!   reference --shorter PROGRAM FILE...       PROGRAM must print the shorter file of each file as `shorter.rs` does; it is read back, with no
+//!                                             more clauses, and after a settled run its own shorter file is itself
+//!   reference --shorter-random PROGRAM SEED N     the same for N texts made from SEED
 
 // one valid setup is compared by tests/outside
 #[allow(dead_code)]
 mod rules;
+mod shorter;
 mod texts;
 mod why;
 mod witness;
@@ -31,6 +35,7 @@ use std::io::Write as _;
 use std::process::{Command, ExitCode, Stdio};
 
 use rules::{by_models, clauses_of, holds, read, run_of, status_lines, table, with_held, Formula};
+use shorter::{fault_of_text, ShorterGiven};
 use texts::{random_held, random_text, text_of, Random};
 use why::{fault_of_kept, forces, WhyGiven};
 
@@ -315,6 +320,50 @@ fn witness_against(program: &str, texts: &[Text]) -> ExitCode {
     if wrong == 0 { ExitCode::SUCCESS } else { ExitCode::FAILURE }
 }
 
+// ---- the shorter file
+
+/// A formula with the limits of the programs.
+fn as_printed(f: &Formula) -> ShorterGiven<'_> {
+    ShorterGiven { entries: &f.entries, vars: f.vars as u32, budget: 1_000_000, chunk_limit: 16, room: rules::MAX_TEXT }
+}
+
+/// What the program is to print for a text.
+fn shorter_text(text: &[u8]) -> String {
+    let made = read(text).and_then(|f| shorter::shorter(&as_printed(&f)));
+    made.map_or_else(|(number, place)| format!("refused {number} place {place}\n"), |(_, text)| text)
+}
+
+/// What is wrong with what the program prints for a text, if anything.
+fn shorter_difference(program: &str, text: &[u8]) -> Option<String> {
+    let print = |text: &[u8]| printed(program, &[], text).map(|bytes| String::from_utf8_lossy(&bytes).into_owned());
+    let got = match print(text) {
+        Err(e) => return Some(format!("{program}: {e}")),
+        Ok(got) => got,
+    };
+    let expected = shorter_text(text);
+    if got != expected {
+        return Some(format!("expected\n{expected}but it printed\n{got}"));
+    }
+    let (f, run) = read(text).and_then(|f| run_of(&f, &[]).map(|run| (f, run))).ok()?;
+    if let Some(fault) = fault_of_text(&as_printed(&f), run.answer, got.as_bytes(), f.vars <= 10) {
+        return Some(format!("{fault}\n{got}"));
+    }
+    let again = (run.answer == 0).then(|| print(got.as_bytes()).unwrap_or_default())?;
+    (again != got).then(|| format!("of its own text\n{got}it printed\n{again}"))
+}
+
+fn shorter_against(program: &str, texts: &[Text]) -> ExitCode {
+    let mut wrong = 0;
+    for (name, text, _) in texts {
+        if let Some(what) = shorter_difference(program, text) {
+            println!("{name}: {what}");
+            wrong += 1;
+        }
+    }
+    println!("{} texts made shorter, {wrong} differ", texts.len());
+    if wrong == 0 { ExitCode::SUCCESS } else { ExitCode::FAILURE }
+}
+
 // ---- families
 
 fn at_most_one(vars: &[i32]) -> Vec<Vec<i32>> {
@@ -401,7 +450,7 @@ fn against(program: &str, texts: &[Text]) -> ExitCode {
 fn main() -> ExitCode {
     let args: Vec<String> = env::args().skip(1).collect();
     let done = match args.iter().map(String::as_str).collect::<Vec<_>>()[..] {
-        [word @ ("--random" | "--why-random" | "--why-solver" | "--witness-random"), program, seed, n] => {
+        [word @ ("--random" | "--why-random" | "--why-solver" | "--witness-random" | "--shorter-random"), program, seed, n] => {
             let (Ok(seed), Ok(n)) = (seed.parse::<u64>(), n.parse::<u64>()) else {
                 eprintln!("SEED and N are numbers");
                 return ExitCode::FAILURE;
@@ -427,9 +476,11 @@ fn main() -> ExitCode {
             return match word {
                 "--random" => against(program, &texts),
                 "--why-random" => why_against(program, &texts),
+                "--shorter-random" => shorter_against(program, &texts),
                 _ => witness_against(program, &texts),
             };
         }
+        ["--shorter", program, ..] => files_of(&args[2..]).map(|texts| shorter_against(program, &texts)),
         ["--witness", program, ..] => files_of(&args[2..]).map(|texts| witness_against(program, &texts)),
         ["--why", program, ..] => files_of(&args[2..]).map(|texts| why_against(program, &texts)),
         ["--against", program, ..] => files_of(&args[2..]).map(|texts| against(program, &texts)),

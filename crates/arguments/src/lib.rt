@@ -4,7 +4,7 @@ use reader::token::Token;
 use reader::token::token_of;
 use reader::token::value_of;
 ghost use mathlib.Core.Path.{_≡_};
-ghost use Rattle.rules.specs.Text.{entryOf};
+ghost use Rattle.texts.specs.Text.{entryOf};
 ghost use Rattle.reader.specs.Words.{tokenOf};
 ghost use Rattle.arguments.specs.Number.{argumentOf};
 

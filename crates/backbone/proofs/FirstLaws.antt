@@ -1,8 +1,8 @@
 -- The laws of specs/First: the run by its first call.
 --
---   copied-whole      all of one list put over another of its length
+--   copied-whole, kept-len     all of one list put over another of its length; a board of as many variables
 --   shows-begun, room-begun, row-begun, ready-begun     cleared buffers show a run that has begun, and there is room for its first row
---   first-over, first-clauses, first-called     what the first call needs and is, and what its end says
+--   first-over, first-called     what the first call needs, and what its end says
 --   shows-none, cleared-lent     and that every record is open
 --   records-first     the records behind the first model
 --   done-by-row       the first call found no model, or was stopped
@@ -16,7 +16,7 @@ use mathlib.Core.List.{List, [], _∷_, _++_, append-nil}
 use Prim.Native.Nat.{ℕ, zero, suc, _+_, _-_, _*_, _≤_}
 use native.Mathlib.Omega.{arith}
 use lib.IntN.{ℤ}
-use lib.ListN.{length, take, drop, replicate, length-replicate, drop-of-length-le}
+use lib.ListN.{length, replicate, length-replicate, take, drop, drop-of-length-le}
 use lib.Seq.{take-all}
 use Rattle.rules.specs.declared.Outcome.{Outcome}
 use Rattle.rules.specs.declared.Report.{Report}
@@ -32,12 +32,11 @@ use Rattle.rules.specs.Lists.{tabled}
 use Rattle.rules.proofs.LogLaws.{blank-counts}
 use Rattle.rules.proofs.RecordLaws.{records-begun, first-none-records}
 use Rattle.rules.proofs.HintTheorems.{first-model as model-found}
-use Rattle.formula.specs.Starts.{callClauses}
 use Rattle.formula.specs.Formula.{Formula}
-use Rattle.formula.proofs.ClauseLaws.{callClauses-formula, length-starts, nil-up-to}
+use Rattle.formula.proofs.ClauseLaws.{length-starts, nil-up-to}
 use Rattle.search.specs.declared.call.CallEnd.{CallEnd}
-use Rattle.search.specs.Closings.{CallOver}
-use Rattle.search.specs.Calls.{valuesAfter, CallEnds}
+use Rattle.search.specs.Calls.{CallOver, valuesAfter, CallEnds}
+use Rattle.search.specs.Rooms.{BoardKept}
 use Rattle.calls.specs.declared.after.Tally.{Tally}
 use Rattle.calls.specs.declared.after.Made.{Made}
 use Rattle.calls.specs.declared.next.Limits.{Limits}
@@ -58,6 +57,11 @@ pub copied-whole : (xs ys : List ℕ) {zs : List ℕ} → length ys ≡ length x
 copied-whole xs ys e f =
     f ∙ ap (λ (ts : List ℕ). ts ++ drop (length xs) ys) (take-all (length xs) xs (omega arith)) ∙
     ap (λ (ts : List ℕ). xs ++ ts) (drop-of-length-le ys {i = length xs} (omega (arith, e))) ∙ append-nil xs
+
+-- the board of as many variables
+pub kept-len : {n m : ℕ} {es : List ℤ} {starts lists holders marks : List ℕ} {values : Values} {keys hot trail : List ℕ} → n ≡ m
+    → BoardKept n es starts lists holders marks values keys hot trail → BoardKept m es starts lists holders marks values keys hot trail
+kept-len e k = rw (← e) k
 
 -- ---- before the first call
 
@@ -133,9 +137,6 @@ module _ {es : List ℤ} {starts : List ℕ} {n : ℕ} (f : Formula n es starts)
   pub first-over : {vars : ℕ} → vars ≡ n → CallOver vars es starts [] (length starts - 1)
   first-over e =
       rw e (record { formula = f; constraint-up-to = nil-up-to n; total-most = omega (arith, length-starts f) })
-
-  pub first-clauses : callClauses es [] (length starts - 1) ≡ clauses es
-  first-clauses = ap (callClauses es []) (omega (arith, length-starts f)) ∙ callClauses-formula es []
 
 pub first-called : (es : List ℤ) (limits : Limits) {n vars : ℕ} {vs after : Values} {r : CallEnd} → n ≡ vars
     → CallEnds (firstOn es n (limits .budget)) vs (limits .budget) r after

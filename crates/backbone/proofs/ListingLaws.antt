@@ -21,7 +21,8 @@ use Rattle.backbone.specs.First.{Cleared}
 -- the starts as they are found are those of the formula
 pub found-formula : {vars n : ℕ} {es : List ℤ} {before after : List ℕ} → Formula vars es (startsOf es) → StartsFound es before n after
     → Formula vars es (take (n + 1) after)
-found-formula f w = record { vars-fit = f .vars-fit; starts-fit = f .starts-fit; starts-are = found-front w; up-to = f .up-to }
+found-formula f w =
+    record { vars-fit = f .vars-fit; entries-most = f .entries-most; clauses-most = f .clauses-most; starts-are = found-front w; up-to = f .up-to }
 
 pub cleared : (status calls ways log : List ℕ) {status′ calls′ ways′ log′ : List ℕ} → RecordsLent status calls ways → length log ≡ logLength (length status)
     → length status′ ≡ length status → status′ ≡ replicate (length status) 0 → calls′ ≡ replicate (length calls) 0

@@ -95,15 +95,6 @@ module _ (g : Given) where
     pub entries-most : length list ≤ maxEntries + (maxHeld + maxHeld)
     entries-most = omega (arith, length-listWith (g .entries) (g .held), accepted .listed .entries-fit, accepted .holdable .few)
 
-    pub is-formula : Formula (length (take (g .vars) (g .status))) list (startsOf list)
-    is-formula =
-        record {
-          vars-fit = rw status-len (accepted .listed .lent .in-limits .vars-fit);
-          starts-fit = omega (arith, entries-most);
-          starts-are = refl;
-          up-to = rw status-len (listWith-up-to (g .entries) (g .held) (accepted .up-to) (accepted .holdable .up-to));
-        }
-
     pub clauses-most : length (clauses list) ≤ maxClauses + maxHeld
     clauses-most =
         omega (
@@ -114,6 +105,16 @@ module _ (g : Given) where
           accepted .listed .clauses-fit,
           accepted .holdable .few,
         )
+
+    pub is-formula : Formula (length (take (g .vars) (g .status))) list (startsOf list)
+    is-formula =
+        record {
+          vars-fit = rw status-len (accepted .listed .lent .in-limits .vars-fit);
+          entries-most = entries-most;
+          clauses-most = clauses-most;
+          starts-are = refl;
+          up-to = rw status-len (listWith-up-to (g .entries) (g .held) (accepted .up-to) (accepted .holdable .up-to));
+        }
 
     pub log-len : length (take (logLength (g .vars)) (g .log)) ≡ logLength (length (take (g .vars) (g .status)))
     log-len = length-take-le (logLength (g .vars)) (g .log) (accepted .listed .lent .log-fits) ∙ ap logLength (sym status-len)

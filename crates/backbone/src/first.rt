@@ -13,12 +13,20 @@ use held::put_list;
 use rules::Outcome;
 use rules::Report;
 use search::call::CallEnd;
-use search::call::go_on;
 use search::meter::Meter;
+use search::room::MAX_BLOCKS;
+use search::room::MAX_CODES;
+use search::room::MAX_PARTS;
+use search::room::MAX_TRAIL;
+use search::room::begin_in;
+use search::whole::call_in;
+use search::whole::whole_call;
 use steps::hint::put_hints;
 use steps::records::put_records;
 ghost use mathlib.Core.Path.{_≡_};
-ghost use lib.ListN.{length};
+ghost use Prim.Native.Nat.{ℕ};
+ghost use lib.ListN.{getD, length};
+ghost use Rattle.search.specs.Rooms.{BoardKept};
 ghost use Rattle.rules.specs.Held.{listWith};
 ghost use Rattle.formula.specs.Formula.{Formula};
 ghost use Rattle.backbone.specs.First.{FirstCalled, started, FirstFound, CallsBegin, RunBegins, ListDone};
@@ -26,17 +34,61 @@ ghost use Rattle.backbone.specs.First.{HintsBegin, HintsDone, ListTaken}
 
 // The first call, from no value, on the formula alone.
 // Rules out: a call from the values that were there; one that starts with a try spent.
-// Required of: all_calls, which requires it too; setup::on_list, for the list that it is given.
+// Required of: setup::on_list, for the list that it is given.
 pub fn first_call(entries: &[i32], starts: &[u16], values: &mut [u8], budget: u32) -> CallEnd
     requires { ⌜ Formula (length (now values)) (now entries) (now starts) ⌝ }
     ensures { λ r. ⌜ FirstCalled (now (entries .entry)) (length (now (values .entry))) budget r (now (values .exit)) ⌝ }
 {
     clear_bytes(values);
     let total = (starts.len() - 1) as u32;
-    go_on(
+    whole_call(
         entries,
         starts,
         &entries[..0],
+        total,
+        values,
+        Meter {
+            budget: budget,
+            spent: 0,
+        },
+    )
+}
+
+// The same over the board of the run, which is kept.
+// Rules out: a call from the values that were there; a constraint.
+// Required of: all_calls, behind the beginning.
+fn first_in(
+    entries: &[i32],
+    starts: &[u16],
+    lists: &[u16; MAX_PARTS],
+    holders: &[u16; rules::MAX_LIST],
+    marks: &mut [u8; MAX_CODES],
+    shown: &mut [u8; rules::MAX_VARS as usize],
+    keys: &mut [u32; rules::MAX_STARTS],
+    hot: &mut [u16; MAX_BLOCKS],
+    trail: &mut [u16; MAX_TRAIL],
+    values: &mut [u8],
+    budget: u32,
+) -> CallEnd
+    requires { ⌜ Formula (length (now values)) (now entries) (now starts)
+        × BoardKept (length (now values)) (now entries) (now starts) (now lists) (now holders) (now marks) (now shown) (now keys) (now hot) (now trail) ⌝ }
+    ensures { λ r. ⌜ FirstCalled (now (entries .entry)) (length (now (values .entry))) budget r (now (values .exit))
+        × BoardKept (length (now (values .entry))) (now (entries .entry)) (now (starts .entry))
+        (now (lists .entry)) (now (holders .entry)) (now (marks .exit)) (now (shown .exit)) (now (keys .exit)) (now (hot .exit)) (now (trail .exit)) ⌝ }
+{
+    clear_bytes(values);
+    let total = (starts.len() - 1) as u32;
+    call_in(
+        entries,
+        starts,
+        &entries[..0],
+        lists,
+        holders,
+        marks,
+        shown,
+        keys,
+        hot,
+        trail,
         total,
         values,
         Meter {
@@ -72,10 +124,18 @@ fn settle(
     calls: &mut [u32],
     ways: &mut [u8],
     log: &mut [u32],
+    lists: &[u16; MAX_PARTS],
+    holders: &[u16; rules::MAX_LIST],
+    marks: &mut [u8; MAX_CODES],
+    shown: &mut [u8; rules::MAX_VARS as usize],
+    keys: &mut [u32; rules::MAX_STARTS],
+    hot: &mut [u16; MAX_BLOCKS],
+    trail: &mut [u16; MAX_TRAIL],
     spent: u32,
     limits: Limits,
 ) -> Report
-    requires { ⌜ FirstFound (now entries) (now starts) (now values) (now first) (now status) (now calls) (now ways) (now log) spent limits ⌝ }
+    requires { ⌜ FirstFound (now entries) (now starts) (now values) (now first) (now status) (now calls) (now ways) (now log) spent limits
+        × BoardKept (length (now status)) (now entries) (now starts) (now lists) (now holders) (now marks) (now shown) (now keys) (now hot) (now trail) ⌝ }
     ensures { λ r. ⌜ ListDone (now (entries .entry)) (length (now (status .entry))) limits (now (first .entry))
         r (now (first .exit)) (now (status .exit)) (now (calls .exit)) (now (ways .exit)) (now (log .exit)) ⌝ }
 {
@@ -95,13 +155,20 @@ fn settle(
         calls,
         ways,
         log,
+        lists,
+        holders,
+        marks,
+        shown,
+        keys,
+        hot,
+        trail,
         values,
         next,
         limits,
     )
 }
 
-// All calls: a first model is settled by the calls that follow; anything else is one row.
+// All calls, over a board that is begun once: a first model is settled by the calls that follow; anything else is one row.
 // Rules out: going on where there is no model; statuses marked before there is one.
 // Required of: room_for_values, with all variables open and no row.
 fn all_calls(
@@ -113,13 +180,45 @@ fn all_calls(
     calls: &mut [u32],
     ways: &mut [u8],
     log: &mut [u32],
+    lists: &mut [u16; MAX_PARTS],
+    holders: &mut [u16; rules::MAX_LIST],
+    marks: &mut [u8; MAX_CODES],
+    shown: &mut [u8; rules::MAX_VARS as usize],
+    keys: &mut [u32; rules::MAX_STARTS],
+    hot: &mut [u16; MAX_BLOCKS],
+    trail: &mut [u16; MAX_TRAIL],
     limits: Limits,
 ) -> Report
-    requires { ⌜ CallsBegin (now entries) (now starts) (now values) (now first) (now status) (now calls) (now ways) (now log) limits ⌝ }
+    requires { ⌜ CallsBegin (now entries) (now starts) (now values) (now first) (now status) (now calls) (now ways) (now log) limits
+        × ((b : ℕ) → getD (now hot) b 0 ≡ 0) ⌝ }
     ensures { λ r. ⌜ ListDone (now (entries .entry)) (length (now (status .entry))) limits (now (first .entry))
         r (now (first .exit)) (now (status .exit)) (now (calls .exit)) (now (ways .exit)) (now (log .exit)) ⌝ }
 {
-    let end = first_call(entries, starts, values, limits.budget);
+    begin_in(
+        entries,
+        starts,
+        lists,
+        holders,
+        marks,
+        shown,
+        keys,
+        hot,
+        trail,
+        values.len(),
+    );
+    let end = first_in(
+        entries,
+        starts,
+        lists,
+        holders,
+        marks,
+        shown,
+        keys,
+        hot,
+        trail,
+        values,
+        limits.budget,
+    );
     let meter = end.meter;
     let spent = meter.spent;
     let outcome = end.outcome;
@@ -133,6 +232,13 @@ fn all_calls(
             calls,
             ways,
             log,
+            lists,
+            holders,
+            marks,
+            shown,
+            keys,
+            hot,
+            trail,
             spent,
             limits,
         );
@@ -148,7 +254,7 @@ fn all_calls(
     )
 }
 
-// The run with room for the values of its calls.
+// The run with room for the values of its calls and for its board, which is made once.
 // Rules out: a first model that is not kept; a run over more variables than there are statuses.
 // Required of: with_hints, with all variables open and no row.
 fn room_for_values(
@@ -167,6 +273,13 @@ fn room_for_values(
 {
     let n = status.len();
     let mut values = [0u8; rules::MAX_VARS as usize];
+    let mut lists = [0u16; MAX_PARTS];
+    let mut holders = [0u16; rules::MAX_LIST];
+    let mut marks = [0u8; MAX_CODES];
+    let mut shown = [0u8; rules::MAX_VARS as usize];
+    let mut keys = [0u32; rules::MAX_STARTS];
+    let mut hot = [0u16; MAX_BLOCKS];
+    let mut trail = [0u16; MAX_TRAIL];
     all_calls(
         entries,
         starts,
@@ -176,6 +289,13 @@ fn room_for_values(
         calls,
         ways,
         log,
+        &mut lists,
+        &mut holders,
+        &mut marks,
+        &mut shown,
+        &mut keys,
+        &mut hot,
+        &mut trail,
         limits,
     )
 }

@@ -12,7 +12,7 @@ use native.Mathlib.Omega.{arith}
 use lib.Dec.{leb}
 use lib.ListN.{length}
 use borrow.Author.Tests.{le-leb, lt-leb}
-use Rattle.rules.specs.Printed.{countIfRoom, bytesIfRoom}
+use Rattle.texts.specs.Printed.{countIfRoom, bytesIfRoom}
 use Rattle.buffers.specs.Put.{Put}
 use Rattle.buffers.proofs.PutLaws.{putAt-front}
 

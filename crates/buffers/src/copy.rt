@@ -6,7 +6,7 @@ ghost use lib.ListN.{length, take, drop};
 
 // Copies the first n bytes of one slice to another one, whose rest stays.
 // Rules out: the last byte left out; a cleared rest.
-// Required of: search::call::go_on and take_back, over at most 256 values; backbone::first::settle, over buffers of one length.
+// Required of: search::whole::in_room and backbone::first::settle, over buffers of one length.
 pub fn copy_first(from: &[u8], to: &mut [u8], n: usize)
     requires { ⌜ (n ≤ length (now from)) × (n ≤ length (now to)) ⌝ }
     ensures { λ _. ⌜ now (to .exit) ≡ take n (now (from .entry)) ++ drop n (now (to .entry)) ⌝ }

@@ -1,7 +1,7 @@
 // Bytes, words and numbers put into a buffer at a cursor: each function answers the cursor behind what it put.
 ghost use mathlib.Core.List.{[], _∷_, _++_};
-ghost use Rattle.rules.specs.Plain.{decimal};
-ghost use Rattle.rules.specs.ModelLine.{signed};
+ghost use Rattle.texts.specs.Plain.{decimal};
+ghost use Rattle.texts.specs.ModelLine.{signed};
 ghost use Rattle.buffers.specs.Put.{Put, Room};
 
 // One byte.

@@ -1,7 +1,8 @@
 -- The laws of specs/Next: what a chunk's call needs and is, and what each end makes of the run.
 --
 --   constraint-up-to  the constraint is over the formula's variables
---   chunk-over        what `go_on` needs
+--   forced-small      the forced values are bytes that it may start from
+--   chunk-over        what the call needs
 --   chunk-clauses, ends-same     the clauses of the call, and its end by them
 --   call-next         what comes of a call, whatever is done next
 --   size-le           a chunk size is within the limit
@@ -18,11 +19,11 @@ use Rattle.rules.specs.Lists.{In}
 use Rattle.rules.specs.Numbers.{maxVars}
 use Rattle.rules.specs.Meaning.{Clause, Values, varOf, negated, clauses, LitUpTo}
 use Rattle.rules.specs.Search.{Call, callOn}
-use Rattle.rules.specs.Run.{Task, Progress, statusAt, opens, candidatesFrom, constraint, chunkCall, Ended, onCall, onOpen}
+use Rattle.rules.specs.Run.{Task, Progress, statusAt, opens, candidatesFrom, constraint, forcedValues, chunkCall, Ended, onCall, onOpen}
 use Rattle.rules.specs.Trace.{Reached, first-model, next-model, next-none}
 use Rattle.rules.specs.Answer.{isFree, isForced}
 use Rattle.rules.proofs.ListLaws.{map-in, in-take, count-le}
-use Rattle.rules.proofs.StatusLaws.{candidate-open}
+use Rattle.rules.proofs.StatusLaws.{candidate-open, forcedValue-le}
 use Rattle.rules.proofs.KnownLaws.{first-model-is}
 use Rattle.rules.proofs.RunTrace.{doubled-is, known}
 use Rattle.rules.proofs.LogLaws.{calls-opens-le}
@@ -31,8 +32,7 @@ use Rattle.formula.specs.Starts.{callClauses}
 use Rattle.formula.specs.Formula.{Formula}
 use Rattle.formula.proofs.ClauseLaws.{callClauses-constraint, length-starts}
 use Rattle.search.specs.declared.call.CallEnd.{CallEnd}
-use Rattle.search.specs.Closings.{CallOver}
-use Rattle.search.specs.Calls.{CallEnds}
+use Rattle.search.specs.Calls.{CallOver, CallEnds}
 use Rattle.calls.specs.declared.after.Tally.{Tally}
 use Rattle.calls.specs.declared.after.Made.{Made}
 use Rattle.calls.specs.After.{TallyReady}
@@ -55,6 +55,12 @@ constraint-up-to first status n = record { each = λ l i. go l (map-in negated (
         let (i, q, z) = candidate-open 0 first status (in-take n (candidatesFrom 0 first status) h) in
         let v : varOf l ≡ suc (0 + i) = ap varOf (e ∙ ap negated q) ∙ varOf-false (0 + i) (getD first i 1) in
         record { some = omega arith; most = omega (arith, open-in status i z) }
+
+-- and it starts from bytes that say unset, false or true
+pub forced-small : (status : List ℕ) (i : ℕ) → getD (forcedValues status) i 0 ≤ 2
+forced-small [] i = omega arith
+forced-small (s ∷ ss) zero = forcedValue-le s
+forced-small (s ∷ ss) (suc i) = forced-small ss i
 
 -- a call with the constraint behind the formula
 module _ {es : List ℤ} {starts : List ℕ} {n : ℕ} (f : Formula n es starts) (con : Clause) where

@@ -1,7 +1,7 @@
 -- The laws of what follows at once: the end of the closing, and what is refused and accepted.
 --
 --   told-clash, told-closed       what an end says
---   closed-same, done-told        the closing of a list, and its end, told, are what is defined
+--   done-told                     the end of the closing of a list, told, is what is defined
 --   closes-refused, closes-accepted     what is returned and written
 --
 -- Assumes nothing.
@@ -27,9 +27,10 @@ use Rattle.rules.specs.Setup.{setupRefusal, setupRun}
 use Rattle.rules.proofs.SetupTheorems.{refusal-same}
 use Rattle.refusals.specs.declared.Checked.the-variants.{Accepted as NotRefused, Refused}
 use Rattle.refusals.specs.Refuse.{found}
-use Rattle.search.specs.declared.close.Closing.{Closing}
-use Rattle.search.specs.declared.close.Closing.the-variants.{Clash, Closed as AllClosed}
-use Rattle.search.specs.Closings.{closedOf, roundsOf, ClosesBy}
+use Rattle.board.specs.declared.close.Closing.{Closing}
+use Rattle.board.specs.declared.close.Closing.the-variants.{Clash, Closed as AllClosed}
+use Rattle.board.specs.Closings.{closedOf, roundsOf}
+use Rattle.search.specs.Wholes.{ClosesBy}
 use Rattle.backbone.proofs.RunLaws as run-laws
 use Rattle.setup.proofs.SetupLaws.{open-run}
 use Rattle.closing.specs.Ended.{Told, CloseDone}
@@ -43,10 +44,6 @@ told-clash e f = rw e (record { result-is = refl; after-is = f })
 pub told-closed : {end : Closing} {n k : ℕ} {vs : Values} → end ≡ AllClosed n → k ≡ count isSet vs
     → Told end vs (record { answer = CloseAnswer.Closed; rounds = n; set = k }) vs
 told-closed e f = rw (e, f) (record { result-is = refl; after-is = refl })
-
-pub closed-same : {F G : List Clause} {vs ws : Values} {r : Closing} {after : Values} → F ≡ G → vs ≡ ws → ClosesBy F vs r after
-    → ClosesBy G ws r after
-closed-same e f w = rw (e, f) at w
 
 -- after a clash the values that were left do not count
 closed-values : (n : ℕ) (r : Closing) (before : Values) {c : Closed} → c ≡ closedOf r before → closeValues n (closedOf r before) ≡ closeValues n c

@@ -10,17 +10,13 @@ use Rattle.rules.specs.Closing.{closing}
 use Rattle.rules.specs.Rounds.{rounds}
 use Rattle.rules.specs.Run.{blank}
 use Rattle.rules.specs.Close.{closeReport, closeValues}
-use Rattle.search.specs.declared.close.Closing.{Closing}
-use Rattle.search.specs.Closings.{closedOf, roundsOf, ClosesBy}
+use Rattle.board.specs.declared.close.Closing.{Closing}
+use Rattle.board.specs.Closings.{closedOf, roundsOf}
 
 -- what the end of a closing says, by the values that it left
 pub record Told (end : Closing) (before : Values) (result : CloseReport) (after : Values) : Type 0 where
   pub result-is : result ≡ closeReport (closedOf end before) (roundsOf end)
   pub after-is : after ≡ closeValues (length before) (closedOf end before)
-
--- the closing of a list, from nothing set
-abbrev pub ClosedList : List ℤ → ℕ → Closing → Values → Type 0
-ClosedList es vars end after = ClosesBy (clauses es) (blank vars) end after
 
 -- what it leaves
 pub record CloseDone (es : List ℤ) (vars : ℕ) (result : CloseReport) (after : List ℕ) : Type 0 where

@@ -1,18 +1,18 @@
 // What follows at once (docs/RULES.md, "What follows at once"): the closing of the formula and the held literals, from nothing set.
+use board::close::Closing;
 use buffers::clear::clear_bytes;
 use buffers::count::count_set;
 use formula::starts::find_starts;
 use rules::CloseAnswer;
 use rules::CloseReport;
-use search::close::Closing;
+use search::whole::whole_close;
 ghost use Prim.Native.Nat.{_≤_};
 ghost use lib.ListN.{length};
 ghost use Rattle.rules.specs.Numbers.{maxVars};
 ghost use Rattle.rules.specs.Held.{listWith};
 ghost use Rattle.rules.specs.Close.{closeGiven, Closes};
-ghost use Rattle.formula.specs.Formula.{Formula};
 ghost use Rattle.setup.specs.Called.{SetupTaken};
-ghost use Rattle.closing.specs.Ended.{Told, ClosedList, CloseDone};
+ghost use Rattle.closing.specs.Ended.{Told, CloseDone};
 
 // What the end of a closing says; after a clash the values become zeros.
 // Rules out: the values between as a closed set; variables counted after a clash.
@@ -38,18 +38,6 @@ fn tell(end: Closing, values: &mut [u8]) -> CloseReport
     }
 }
 
-// The closing of all clauses of a formula, from nothing set.
-// Rules out: a closing from the values that were there; one without the last clause.
-// Required of: on_list, for the starts that it has found.
-fn close_all(entries: &[i32], starts: &[u16], values: &mut [u8]) -> Closing
-    requires { ⌜ Formula (length (now values)) (now entries) (now starts) ⌝ }
-    ensures { λ r. ⌜ ClosedList (now (entries .entry)) (length (now (values .entry))) r (now (values .exit)) ⌝ }
-{
-    clear_bytes(values);
-    let total = (starts.len() - 1) as u32;
-    search::close::close(entries, starts, &entries[..0], total, values)
-}
-
 // The closing of a list that no rule refuses, with room for where its clauses start.
 // Rules out: the closing of the formula without its last clause; rounds of another list.
 // Required of: with_held, for the list that it has made.
@@ -59,7 +47,7 @@ fn on_list(entries: &[i32], values: &mut [u8]) -> CloseReport
 {
     let mut starts = [0u16; rules::MAX_STARTS];
     let count = find_starts(entries, &mut starts);
-    let end = close_all(entries, &starts[..count + 1], values);
+    let end = whole_close(entries, &starts[..count + 1], values);
     tell(end, values)
 }
 

@@ -3,20 +3,21 @@
 use mathlib.Core.Path.{_≡_}
 use mathlib.Core.List.{List}
 use mathlib.Core.Option.{Option, none, some}
-use Prim.Native.Nat.{ℕ, _≤_, _<_, _^_}
+use Prim.Native.Nat.{ℕ, _+_, _≤_}
 use lib.IntN.{ℤ}
 use lib.ListN.{length}
 use Rattle.rules.specs.Lists.{In}
-use Rattle.rules.specs.Numbers.{maxVars}
-use Rattle.rules.specs.Meaning.{varOf}
+use Rattle.rules.specs.Numbers.{maxVars, maxClauses, maxEntries, maxHeld}
+use Rattle.rules.specs.Meaning.{varOf, clauses}
 use Rattle.formula.specs.declared.first_false.FirstFalse.{FirstFalse}
 use Rattle.formula.specs.declared.first_false.FirstFalse.the-variants.{Clause, Nothing}
 use Rattle.formula.specs.Starts.{startsOf}
 
--- the bounds are what code needs: a byte for each variable in 256, a start in a u16
+-- the bounds are those of a list with held literals behind it: code has room for so many
 pub record Formula (vars : ℕ) (es : List ℤ) (starts : List ℕ) : Type 0 where
   pub vars-fit : vars ≤ maxVars
-  pub starts-fit : length es < 2 ^ 16
+  pub entries-most : length es ≤ maxEntries + (maxHeld + maxHeld)
+  pub clauses-most : length (clauses es) ≤ maxClauses + maxHeld
   pub starts-are : starts ≡ startsOf es
   pub up-to : (l : ℤ) → In l es → varOf l ≤ vars
 

@@ -37,7 +37,7 @@ pub fn clause_of<'a, 'b>(
 
 // Clause n of an entry list, from 1; after the last one the constraint.
 // Rules out: the constraint for a clause of the formula; the first clause for every n.
-// Required of: search::close::round and first_false, which count from 1 to the last clause.
+// Required of: board::round::round and first_false, which count from 1 to the last clause.
 pub fn clause_in<'a, 'b>(
     entries: &'a [i32],
     vars: usize,

@@ -3,6 +3,7 @@
 --   Storing, storing-start, storing-room, storing-step, storing-done     the loop over entries
 --   Holding, holding-start, holding-room, holding-step, holding-done     the loop over held literals, two entries a turn
 --   fits-first, fits-then, list-put     a list, and the held literals behind it
+--   sets-append       one part behind the other
 --   put-front         the list is the front of the buffer
 --
 -- Assumes nothing.
@@ -84,7 +85,7 @@ module _ {held : List ℤ} {at : ℕ} {before : List ℤ} {i next : ℕ} {now : 
 -- ---- both
 
 -- one part behind the other
-sets-append : (l : List ℤ) (i : ℕ) (xs ys : List ℤ) → sets l i (xs ++ ys) ≡ sets (sets l i xs) (i + length xs) ys
+pub sets-append : (l : List ℤ) (i : ℕ) (xs ys : List ℤ) → sets l i (xs ++ ys) ≡ sets (sets l i xs) (i + length xs) ys
 sets-append l i [] ys = ap (λ (k : ℕ). sets l k ys) (omega arith)
 sets-append l i (x ∷ xs) ys = sets-append (set l i x) (suc i) xs ys ∙ ap (λ (k : ℕ). sets (sets (set l i x) (suc i) xs) k ys) (omega arith)
 

@@ -61,7 +61,7 @@ no-refusal : (a : Refusal) {k : ℕ} → Closing k → k ≡ refusalNumber a →
 no-refusal a (inl z) e = let (low, high) = between a in omega (arith, z, e, low)
 no-refusal a (inr z) e = let (low, high) = between a in omega (arith, z, e, high)
 
-refusal-same : (a b : Refusal) → refusalNumber a ≡ refusalNumber b → refusalPlace a ≡ refusalPlace b → a ≡ b
+pub refusal-same : (a b : Refusal) → refusalNumber a ≡ refusalNumber b → refusalPlace a ≡ refusalPlace b → a ≡ b
 refusal-same a b e f =
     let same : RunAnswer.Refused a ≡ RunAnswer.Refused b =
     sym (runAnswer-numbers (RunAnswer.Refused a)) ∙ cc (e, f) ∙ runAnswer-numbers (RunAnswer.Refused b) in

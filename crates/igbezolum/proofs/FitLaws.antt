@@ -1,5 +1,5 @@
 -- From the promises of the crates below to those in numbers.
---   refused-place        the place of a refused run
+--   refused-place, ended-place     the place of a run that is refused, and of one that is not
 --   reads-fit runs-fit sets-up-fit witnesses-fit   places and counts fit the fields of the structs
 --   reads-in runs-in sets-up-in witnesses-in       what is returned in numbers, with the buffers as they were left
 -- Assumes nothing.
@@ -16,16 +16,16 @@ use Rattle.rules.specs.declared.Refusal.{Refusal}
 use Rattle.rules.specs.declared.RunAnswer.{RunAnswer}
 use Rattle.rules.specs.declared.Report.{Report}
 use Rattle.rules.specs.Numbers.{maxEntries, refusalPlace, runPlace}
-use Rattle.rules.specs.Reading.{Judged, accepted, refused, judge, returned, readingOf, Reads}
+use Rattle.texts.specs.Reading.{Judged, accepted, refused, judge, returned, readingOf, Reads}
 use Rattle.rules.specs.Answer.{Given, Buffers, refusalOf, taskOf, reportIf, reportOf, Runs}
 use Rattle.rules.specs.RunRefusals.{RunRefuses, bad-limits, short-buffer, list-long, not-ended, zero-over, entry-over-vars}
 use Rattle.rules.specs.RunRefusals.{many-held, bad-literal}
 use Rattle.rules.specs.Witness.{Asked, askedTask, askedRefusal, askedReport, Witnesses}
 use Rattle.rules.proofs.ListLaws.{apart}
 use Rattle.rules.proofs.WitnessTheorems.{asked-refused, asked-answered}
-use Rattle.rules.proofs.RefusalLaws.{refusal-sound}
-use Rattle.rules.proofs.PlaceLaws.{refuses-place}
-use Rattle.rules.proofs.PrintedLaws.{table-formed}
+use Rattle.texts.proofs.RefusalLaws.{refusal-sound}
+use Rattle.texts.proofs.PlaceLaws.{refuses-place}
+use Rattle.texts.proofs.PrintedLaws.{table-formed}
 use Rattle.rules.proofs.RefusedRuns.{run-refused, run-accepted}
 use Rattle.rules.proofs.RunTheorems.{run-answer}
 use Rattle.rules.specs.Search.{Call, model, no-model, stopped}
@@ -62,7 +62,7 @@ refused-place (entry-over-vars w front l back q k h) = omega (arith, w .entries-
 refused-place (many-held w h) = omega arith
 refused-place (bad-literal w s front l back q k h) = omega (arith, ap length q, length-append front (l ∷ back))
 
-ended-place : {a : RunAnswer} → (a ≡ RunAnswer.Settled) ⊎ ((a ≡ RunAnswer.NoModel) ⊎ (a ≡ RunAnswer.Stopped)) → runPlace a ≤ maxEntries
+pub ended-place : {a : RunAnswer} → (a ≡ RunAnswer.Settled) ⊎ ((a ≡ RunAnswer.NoModel) ⊎ (a ≡ RunAnswer.Stopped)) → runPlace a ≤ maxEntries
 ended-place (inl h) = rw h (omega arith)
 ended-place (inr (inl h)) = rw h (omega arith)
 ended-place (inr (inr h)) = rw h (omega arith)

@@ -6,4 +6,10 @@ pub mod WhyPromises
 pub mod WitnessPromises
 pub mod CloseFit
 pub mod ClosePromises
+pub mod GroupsFit
+pub mod GroupsPromises
+pub mod ClaimsFit
+pub mod ClaimsPromises
 pub mod OrderPromises
+pub mod ShorterFit
+pub mod ShorterPromises

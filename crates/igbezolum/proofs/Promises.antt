@@ -30,10 +30,10 @@ use Rattle.rules.specs.declared.Refusal.{Refusal}
 use Rattle.rules.specs.declared.RunAnswer.{RunAnswer}
 use Rattle.rules.specs.declared.Report.{Report}
 use Rattle.rules.specs.Numbers.{maxEntries, readNumber, readPlace, refusalNumber, refusalPlace, runNumber, runPlace}
-use Rattle.rules.specs.Text.{Sizes}
-use Rattle.rules.specs.Reading.{readingOf, Reads}
-use Rattle.rules.specs.Grammar.{Dimacs}
-use Rattle.rules.specs.Refusals.{Refuses}
+use Rattle.texts.specs.Text.{Sizes}
+use Rattle.texts.specs.Reading.{readingOf, Reads}
+use Rattle.texts.specs.Grammar.{Dimacs}
+use Rattle.texts.specs.Refusals.{Refuses}
 use Rattle.rules.specs.Meaning.{Values, LitUpTo, indexOf, clauses}
 use Rattle.rules.specs.Search.{model}
 use Rattle.rules.specs.Models.{NoModel, Forced, Free, WitnessOf}
@@ -48,8 +48,9 @@ use Rattle.rules.specs.Recorded.{RecordsIn}
 use Rattle.rules.specs.Witness.{PairAt}
 use Rattle.rules.proofs.ListLaws.{both, never}
 use Rattle.rules.proofs.Theorems as theorems
-use Rattle.rules.proofs.ReadingTheorems.{read-accepts, read-accepted}
-use Rattle.rules.proofs.TextTheorems.{dimacs-runs}
+use Rattle.texts.proofs.Theorems as text-theorems
+use Rattle.texts.proofs.ReadingTheorems.{read-accepts, read-accepted}
+use Rattle.texts.proofs.TextTheorems.{dimacs-runs}
 use Rattle.backbone.proofs.Promises as run
 use Rattle.igbezolum.specs.declared.IgbReading.{IgbReading}
 use Rattle.igbezolum.specs.declared.IgbReport.{IgbReport}
@@ -181,7 +182,7 @@ module _ {text : List ℕ} {before after : List ℤ} {n : IgbReading} (w : Reads
   pub read-refused-exactly : (a : ReadAnswer) → a ≢ ReadAnswer.Accepted
       → ((n .answer ≡ readNumber a) × (n .place ≡ readPlace a)) ↔ Refuses (length before) text a
   read-refused-exactly a ne =
-      let exactly = theorems.reader-refuses text before a ne in
+      let exactly = text-theorems.reader-refuses text before a ne in
       let answer-is : readingFrom n .answer ≡ readingOf text before .answer = ap (λ (r : Reading). r .answer) (reads-back w .result-is) in (
         λ e. exactly .0 (sym answer-is ∙ cc (e .0, e .1) ∙ readAnswer-numbers a),
         λ h. let q = exactly .1 h in (read-number-is ∙ ap readNumber q, read-place-is ∙ ap readPlace q),
@@ -190,7 +191,7 @@ module _ {text : List ℕ} {before after : List ℤ} {n : IgbReading} (w : Reads
   -- the counts are zero, and the buffer is as it was after 1 and 2, cleared after 3 to 9; a longer one keeps its rest
   pub read-refused-counts : n .answer ≢ 0 → (n .vars ≡ 0) × (n .clauses ≡ 0) × (n .count ≡ 0)
   read-refused-counts ne =
-      let (v, c, k) = theorems.reader-counts text before (omega (arith, read-number-is, pos-of (n .answer) ne)) in (
+      let (v, c, k) = text-theorems.reader-counts text before (omega (arith, read-number-is, pos-of (n .answer) ne)) in (
         ap (λ (m : IgbReading). m .vars) (w .result-is) ∙ v,
         ap (λ (m : IgbReading). m .clauses) (w .result-is) ∙
             c,
@@ -198,10 +199,10 @@ module _ {text : List ℕ} {before after : List ℤ} {n : IgbReading} (w : Reads
       )
 
   pub read-refused-kept : (n .answer ≡ 1) ⊎ (n .answer ≡ 2) → after ≡ before
-  read-refused-kept h = w .after-is ∙ theorems.reader-keeps text before (rw (sym read-number-is) h)
+  read-refused-kept h = w .after-is ∙ text-theorems.reader-keeps text before (rw (sym read-number-is) h)
 
   pub read-refused-cleared : 3 ≤ n .answer → after ≡ replicate 4096 (pos 0) ++ drop 4096 before
-  read-refused-cleared h = w .after-is ∙ theorems.reader-clears text before (rw (sym read-number-is) h)
+  read-refused-cleared h = w .after-is ∙ text-theorems.reader-clears text before (rw (sym read-number-is) h)
 
 -- ---- a text that is accepted
 
@@ -259,7 +260,7 @@ read-exactly {text} {before} w = (
 abbrev pub Answered : IgbReport → Type 0
 Answered n = (n .answer ≡ 0) ⊎ ((n .answer ≡ 20) ⊎ (n .answer ≡ 21))
 
-answered-number : (a : RunAnswer) → run.isAnswered a ≡ true → (runNumber a ≡ 0) ⊎ ((runNumber a ≡ 20) ⊎ (runNumber a ≡ 21))
+pub answered-number : (a : RunAnswer) → run.isAnswered a ≡ true → (runNumber a ≡ 0) ⊎ ((runNumber a ≡ 20) ⊎ (runNumber a ≡ 21))
 answered-number RunAnswer.Settled e = inl refl
 answered-number RunAnswer.NoModel e = inr (inl refl)
 answered-number RunAnswer.Stopped e = inr (inr refl)

@@ -7,7 +7,7 @@ use lib.IntN.{ℤ}
 use Rattle.rules.specs.declared.Reading.{Reading}
 use Rattle.rules.specs.declared.Report.{Report}
 use Rattle.rules.specs.Numbers.{maxText, maxEntries, readNumber, readPlace, runNumber, runPlace}
-use Rattle.rules.specs.Reading.{readingOf, entriesAfter}
+use Rattle.texts.specs.Reading.{readingOf, entriesAfter}
 use Rattle.rules.specs.Answer.{Given, Buffers, reportOf, statusAfter, callsAfter, waysAfter, hintsAfter, logAfter}
 use Rattle.rules.specs.Setup.{SetupGiven, setupReportOf, setupValuesAfter}
 use Rattle.rules.specs.Witness.{Asked, askedReport, firstAfter, witnessAfter}

@@ -5,6 +5,6 @@ use Prim.Native.Nat.{ℕ, _+_, _*_}
 abbrev pub versionOf : ℕ → ℕ → ℕ → ℕ
 versionOf major minor patch = major * 10000 + minor * 100 + patch
 
--- 0.8.0
+-- 0.11.0
 abbrev pub versionNumber : ℕ
-versionNumber = versionOf 0 8 0
+versionNumber = versionOf 0 11 0

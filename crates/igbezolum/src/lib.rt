@@ -1,8 +1,11 @@
 // The functions that C and Rust link (libigbezolum.a): the reader, the run, one valid setup, what follows at once, why a literal is forced,
-// two models that differ on a variable, and the printed table, each thin over its crate. They answer in the numbers of docs/RULES.md, "What comes back";
-// include/igbezolum.h is the page for their callers.
+// two models that differ on a variable, the shorter file, the reader of groups, a check of claims, and the printed tables, each thin over its crate.
+// They answer in the numbers of docs/RULES.md, "What comes back"; include/igbezolum.h is the page for their callers.
 pub mod close;
+pub mod group;
 pub mod pair;
+pub mod shorten;
+pub mod verdict;
 pub mod version;
 pub mod why;
 
@@ -10,7 +13,7 @@ ghost use mathlib.Core.Path.{_≡_};
 ghost use Prim.Native.Nat.{_≤_};
 ghost use Rattle.rules.specs.Numbers.{maxEntries, runPlace};
 ghost use Rattle.rules.specs.Answer.{given, buffers};
-ghost use Rattle.rules.specs.Printed.{Prints};
+ghost use Rattle.texts.specs.Printed.{Prints};
 ghost use Rattle.rules.specs.Setup.{setupGiven};
 ghost use Rattle.igbezolum.specs.Linked.{readingNumbers, reportNumbers, ReadingFits, ReadsIn, RunsIn, SetsUpIn};
 use rules::numbers::read_number;

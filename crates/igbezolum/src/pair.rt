@@ -1,6 +1,6 @@
 // Two models that differ on a variable (docs/RULES.md, "A witness to see"), in numbers and printed.
 ghost use Rattle.rules.specs.Witness.{asked};
-ghost use Rattle.rules.specs.WitnessPrinted.{PrintsWitness};
+ghost use Rattle.texts.specs.WitnessPrinted.{PrintsWitness};
 ghost use Rattle.igbezolum.specs.Linked.{WitnessesIn};
 use crate::IgbReport;
 use crate::report_numbers;

@@ -2,8 +2,8 @@
 ghost use mathlib.Core.Path.{_≡_};
 ghost use Rattle.igbezolum.specs.Version.{versionNumber};
 
-// 0.8.0; tests/version.sh keeps it that of the header, of rust/Cargo.toml and of CHANGES.md.
-const VERSION: u32 = 800;
+// 0.11.0; tests/version.sh keeps it that of the header, of rust/Cargo.toml and of CHANGES.md.
+const VERSION: u32 = 1100;
 
 // The version as one number.
 // Rules out: the number of another version.

@@ -14,9 +14,9 @@ use lib.ListN.{getD}
 use Rattle.rules.specs.declared.Report.{Report}
 use Rattle.rules.specs.Lists.{pieces}
 use Rattle.rules.specs.Numbers.{runNumber}
-use Rattle.rules.specs.Plain.{decimal}
-use Rattle.rules.specs.Printed.{answerWord, callsWord, triesWord, forcedWord, freeWord, openWord, offWord, heldWord}
-use Rattle.rules.specs.Printed.{refusedWord, placeWord, refusedLine, answerLine, statusWords, statusLines}
+use Rattle.texts.specs.Plain.{decimal}
+use Rattle.texts.specs.Printed.{answerWord, callsWord, triesWord, forcedWord, freeWord, openWord, offWord, heldWord}
+use Rattle.texts.specs.Printed.{refusedWord, placeWord, refusedLine, answerLine, statusWords, statusLines}
 use Rattle.lines.specs.Lines.{countFields, endFields, refusedFields, statusLine}
 
 -- ---- fields

@@ -7,7 +7,7 @@ use mathlib.Core.Path.{_≡_, refl}
 use mathlib.Core.List.{[], _∷_}
 use Prim.Native.Nat.{ℕ, zero, suc, _≤_, _<_}
 use native.Mathlib.Omega.{arith}
-use Rattle.rules.specs.ModelLine.{spaceBefore}
+use Rattle.texts.specs.ModelLine.{spaceBefore}
 
 pub no-space : (v : ℕ) → v < 2 → [] ≡ spaceBefore v
 no-space zero h = refl

@@ -3,9 +3,9 @@ use mathlib.Core.List.{List, [], _∷_, _++_}
 use Prim.Native.Nat.{ℕ, _≤_}
 use lib.ListN.{length}
 use Rattle.rules.specs.Numbers.{maxVars}
-use Rattle.rules.specs.Plain.{decimal}
-use Rattle.rules.specs.Printed.{answerWord, callsWord, triesWord, forcedWord, freeWord, openWord, refusedWord, placeWord, statusWords}
-use Rattle.rules.specs.Printed.{statusLines}
+use Rattle.texts.specs.Plain.{decimal}
+use Rattle.texts.specs.Printed.{answerWord, callsWord, triesWord, forcedWord, freeWord, openWord, refusedWord, placeWord, statusWords}
+use Rattle.texts.specs.Printed.{statusLines}
 use Rattle.buffers.specs.Put.{Room}
 
 -- the first three numbers of the answer line

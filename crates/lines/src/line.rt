@@ -1,6 +1,6 @@
 // The lines of a table (docs/RULES.md, "The printed table"), each ended by LF.
 ghost use Prim.Native.Nat.{_+_, _≤_};
-ghost use Rattle.rules.specs.Printed.{refusedLine, answerLine, statusWords, statusLines};
+ghost use Rattle.texts.specs.Printed.{refusedLine, answerLine, statusWords, statusLines};
 ghost use Rattle.buffers.specs.Put.{Put, Room};
 ghost use Rattle.lines.specs.Lines.{statusLine, countFields, endFields, LinesOver};
 use buffers::put::put_byte;

@@ -3,7 +3,7 @@ ghost use Prim.Native.Nat.{_≤_};
 ghost use lib.ListN.{length};
 ghost use Rattle.rules.specs.Lists.{pieces};
 ghost use Rattle.rules.specs.Numbers.{maxVars};
-ghost use Rattle.rules.specs.ModelLine.{spaceBefore, modelLiteral, modelLine};
+ghost use Rattle.texts.specs.ModelLine.{spaceBefore, modelLiteral, modelLine};
 ghost use Rattle.buffers.specs.Put.{Put, Room};
 use buffers::put::put_byte;
 use buffers::put::put_signed;

@@ -3,7 +3,8 @@
 --   table-refusal, ran-of         the table of a refused run; any other has run
 --   table-room        room for the table is room for its answer line
 --   table-first, table-lines      the table after 20, and after 0 and 21
---   run-ready, run-table          what a run with buffers of just the size leaves, and its table
+--   counted-le, status-len        how many variables are counted, and statuses left
+--   run-ready, run-table, run-same, statuses-same     what a run with buffers of just the size leaves, and its table
 --   read-list, read-line          what a reading leaves: an entry list, or the line of its refusal
 --   prints-short, prints-table    the contract, in a short buffer and in others
 --   whole-room        a buffer of 9,216 bytes has room for every table
@@ -27,21 +28,21 @@ use Rattle.rules.specs.declared.RunAnswer.{RunAnswer}
 use Rattle.rules.specs.declared.Report.{Report}
 use Rattle.rules.specs.Lists.{count, countIf}
 use Rattle.rules.specs.Numbers.{maxEntries, readNumber, readPlace, refusalNumber, runNumber, runPlace}
-use Rattle.rules.specs.Reading.{Judged, Reads}
+use Rattle.texts.specs.Reading.{Judged, Reads}
 use Rattle.rules.specs.Run.{run}
 use Rattle.rules.specs.Hints.{hintsOf}
 use Rattle.rules.specs.Answer.{Given, Buffers, given, refusalOf, taskOf, isFree, isForced, reportOfRun, reportIf, reportOf, statusAfter, hintsAfter}
 use Rattle.rules.specs.Answer.{Runs}
 use Rattle.rules.specs.RunRefusals.{Formed, Accepted}
-use Rattle.rules.specs.Printed.{refusedLine, answerLine, statusLines, tableBy, tableOfRun}
-use Rattle.rules.specs.Printed.{tableBudget, tableChunk, tableOfJudged, tableOf, maxTable, countIfRoom, Prints}
+use Rattle.texts.specs.Printed.{refusedLine, answerLine, statusLines, tableBy, tableOfRun}
+use Rattle.texts.specs.Printed.{tableBudget, tableChunk, tableOfJudged, tableOf, maxTable, countIfRoom, Prints}
 use Rattle.rules.proofs.ListLaws.{never}
 use Rattle.rules.proofs.RunTheorems.{run-statuses}
 use Rattle.rules.proofs.RefusedRuns.{run-refused, run-accepted, by-held}
 use Rattle.rules.proofs.BufferTheorems.{refused-writes-nothing, length-statusAfter, length-hintsAfter}
-use Rattle.rules.proofs.ReadList as reading
-use Rattle.rules.proofs.PrintedLaws.{table-formed}
-use Rattle.rules.proofs.TableLaws.{length-tableOf}
+use Rattle.texts.proofs.ReadList as reading
+use Rattle.texts.proofs.PrintedLaws.{table-formed}
+use Rattle.texts.proofs.TableLaws.{length-tableOf}
 use Rattle.buffers.specs.Put.{Room, Put}
 use Rattle.printed.specs.Table.{isRefusal, listGiven, tableOfList, Sized, Ran, TableReady}
 use Rattle.buffers.proofs.PutLaws.{room-first, room-same}
@@ -125,7 +126,7 @@ run-hints g w e =
     rw (run-accepted g .1 w) (ap (λ (xs : List ℕ). hintsOf (taskOf g) ++ xs) (drop-of-length-le (g .hints) {i = g .vars} (omega (arith, e))))
 
 -- a refused run leaves its buffers, and an accepted one their lengths
-status-len : (g : Given) → length (statusAfter g) ≡ length (g .status)
+pub status-len : (g : Given) → length (statusAfter g) ≡ length (g .status)
 status-len g = go (refusalOf g) refl
   where
     go : (o : Option Refusal) → refusalOf g ≡ o → length (statusAfter g) ≡ length (g .status)
@@ -139,7 +140,7 @@ hints-len g = go (refusalOf g) refl
     go none e = length-hintsAfter g (run-accepted g .0 e)
     go (some a) e = ap length (refused-writes-nothing g a (run-refused g a .0 e) .4)
 
-counted-le : (g : Given) → reportOf g .forced + reportOf g .free ≤ g .vars
+pub counted-le : (g : Given) → reportOf g .forced + reportOf g .free ≤ g .vars
 counted-le g = go (refusalOf g) refl
   where
     go : (o : Option Refusal) → refusalOf g ≡ o → reportOf g .forced + reportOf g .free ≤ g .vars
@@ -207,6 +208,16 @@ module _ {vars : ℕ} {es held : List ℤ} {room : Buffers} (w : Formed (listGiv
         ap (λ (q : Report). tableOfRun vars q (left .status) (left .hints)) (d .result-is ∙ same-report) ∙
         ap₂ (tableOfRun vars (reportOf (listGiven vars es held))) (d .status-is) (d .hints-are) ∙
         same-table
+
+    -- the report of a run is that of the table, and so are the statuses of one that is not refused
+    pub run-same : r ≡ reportOf (listGiven vars es held)
+    run-same = d .result-is ∙ same-report
+
+    pub statuses-same : Accepted (listGiven vars es held) → left .status ≡ statusAfter (listGiven vars es held)
+    statuses-same a =
+        let own = run-accepted lent .0 (same-refusal ∙ run-accepted (listGiven vars es held) .1 a) in
+        d .status-is ∙ run-status lent own (z .status-len) ∙
+        sym (run-status (listGiven vars es held) a (length-replicate {A = ℕ} vars 0))
 
     pub run-ready : {out : List ℕ} → Room 0 (tableOfList vars es held) out → TableReady vars r (left .status) (left .hints) out
     run-ready {out} m =

@@ -10,11 +10,11 @@ use lib.ListN.{length}
 use Rattle.rules.specs.declared.RunAnswer.{RunAnswer}
 use Rattle.rules.specs.declared.Report.{Report}
 use Rattle.rules.specs.Numbers.{maxVars}
-use Rattle.rules.specs.Text.{Sizes}
-use Rattle.rules.specs.Reading.{accepted, entriesAfter}
+use Rattle.texts.specs.Text.{Sizes}
+use Rattle.texts.specs.Reading.{accepted, entriesAfter}
 use Rattle.rules.specs.Answer.{Given, Buffers, logLength, statusAfter, callsAfter, waysAfter, hintsAfter, logAfter}
 use Rattle.rules.specs.RunRefusals.{Formed}
-use Rattle.rules.specs.Printed.{tableOfRun, tableGiven, tableOfJudged, tableOf}
+use Rattle.texts.specs.Printed.{tableOfRun, tableGiven, tableOfJudged, tableOf}
 use Rattle.buffers.specs.Put.{Room, Put}
 
 -- the number of a run's answer is that of a refusal: 1 to 19

@@ -1,5 +1,5 @@
 // The table of a text (docs/RULES.md, "The printed table"), put into a buffer that is lent.
-ghost use Rattle.rules.specs.Printed.{Prints};
+ghost use Rattle.texts.specs.Printed.{Prints};
 
 mod table;
 

@@ -3,7 +3,7 @@ ghost use mathlib.Core.Path.{_≡_};
 ghost use lib.ListN.{length};
 ghost use Rattle.rules.specs.Numbers.{maxEntries};
 ghost use Rattle.rules.specs.Answer.{given, buffers};
-ghost use Rattle.rules.specs.Printed.{tableOf, tableOfRun, tableBudget, tableChunk};
+ghost use Rattle.texts.specs.Printed.{tableOf, tableOfRun, tableBudget, tableChunk};
 ghost use Rattle.buffers.specs.Put.{Put, Room};
 ghost use Rattle.printed.specs.Table.{isRefusal, tableOfList, ListReady, Sized, TableReady, RunPut, TextPut};
 use lines::line::put_answer;

@@ -21,10 +21,10 @@ use lib.ListN.{length, getD, take, drop, drop-of-length-le, length-drop}
 use lib.Seq.{drop-cons, take-suc, take-all, drop-drop, length-take-le}
 use Rattle.rules.specs.Lists.{keep, nthIndex, cut, eqs}
 use Rattle.rules.specs.declared.ReadAnswer.{ReadAnswer}
-use Rattle.rules.specs.Text.{Piece, Sizes, isGap, isBlank, isEmpty, isNumeral, trimIf, trimmed, sizesIf, sizesOf, wordsOf, headerOf, tokensFrom}
-use Rattle.rules.specs.Reading.{refused, judgeTokens, judgeSizes, fits, judgeHeader}
+use Rattle.texts.specs.Text.{Piece, Sizes, isGap, isBlank, isEmpty, isNumeral, trimIf, trimmed, sizesIf, sizesOf, wordsOf, headerOf, tokensFrom}
+use Rattle.texts.specs.Reading.{refused, judgeTokens, judgeSizes, fits, judgeHeader}
 use Rattle.rules.proofs.ListLaws.{apart}
-use Rattle.rules.proofs.CutLaws.{Stops, at-end, at-one, wordsFrom, bytes-placedWords}
+use Rattle.texts.proofs.CutLaws.{Stops, at-end, at-one, wordsFrom, bytes-placedWords}
 use Rattle.reader.specs.declared.header.Header.{Header}
 use Rattle.reader.specs.declared.header.HeaderLine.{HeaderLine}
 use Rattle.reader.specs.Scan.{firstFrom}

@@ -7,3 +7,4 @@ pub mod HeaderLaws
 pub mod TokenLaws
 pub mod StepLaws
 pub mod StoreLaws
+pub mod NextLaws

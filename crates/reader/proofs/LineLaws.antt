@@ -19,9 +19,9 @@ use lib.ListN.{length, getD, take, drop, drop-of-length-le, length-drop, length-
 use lib.Seq.{drop-drop, take-length, take-all, take-append-seam, drop-append-add, length-take-le}
 use Rattle.rules.specs.declared.ReadAnswer.{ReadAnswer}
 use Rattle.rules.specs.Lists.{all, nthIndex, indexIf, onto, cut, cutIf}
-use Rattle.rules.specs.Text.{Piece, isLf, isBlank, isSkipped, placedFrom, linesOf, headerOf}
-use Rattle.rules.specs.Reading.{Judged, refused, judgeHeader, judgeLine, judgeLines}
-use Rattle.rules.proofs.CutLaws.{Cut, last, piece, cut-none, cut-exists}
+use Rattle.texts.specs.Text.{Piece, isLf, isBlank, isSkipped, placedFrom, linesOf, headerOf}
+use Rattle.texts.specs.Reading.{Judged, refused, judgeHeader, judgeLine, judgeLines}
+use Rattle.texts.proofs.CutLaws.{Cut, last, piece, cut-none, cut-exists}
 use Rattle.reader.specs.declared.line.Line.{Line}
 use Rattle.reader.specs.Scan.{firstFrom}
 use Rattle.reader.specs.Lines.{skipped, lineIf, firstLine, pieceOf, judgeLineAt}

@@ -18,9 +18,9 @@ use lib.Dec.{leb}
 use lib.ListN.{length, getD, drop, drop-of-length-le}
 use lib.Seq.{drop-cons}
 use Rattle.rules.specs.Lists.{all}
-use Rattle.rules.specs.Text.{isDigit, isNumeral, valueFrom, numeral}
+use Rattle.texts.specs.Text.{isDigit, isNumeral, valueFrom, numeral}
 use Rattle.rules.proofs.ListLaws.{apart}
-use Rattle.rules.proofs.TokenLaws.{digit-above, digit-most}
+use Rattle.texts.proofs.TokenLaws.{digit-above, digit-most}
 use Rattle.reader.specs.declared.number.Number.{Number}
 use Rattle.reader.specs.Words.{numberIf, numberOf}
 

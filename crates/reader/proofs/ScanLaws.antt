@@ -4,7 +4,7 @@
 --   first-here, first-past, first-end     one turn of the search at index i, and its end
 --   first-le, from-le             it stays within the list, and does not go back
 --   first-none, first-all, first-stops    before what is found none passes; all pass the opposite test; it is found or the end is
---   words-from, words-none, words-next    separators are passed over; no word is left; the next word and the rest
+--   words-from, words-none, words-next, words-onward     separators are passed over; no word is left; the next word and the rest, further on
 --
 -- Assumes nothing.
 use mathlib.Core.Path.{_≡_, refl, sym, _∙_, ap, ap₂, subst}
@@ -17,8 +17,8 @@ use borrow.Author.Tests.{not-true}
 use lib.ListN.{length, getD, take, drop, take-append-drop, drop-of-length-le, length-drop}
 use lib.Seq.{drop-cons, drop-drop, length-take-le}
 use Rattle.rules.specs.Lists.{any, all, nthIndex, indexIf}
-use Rattle.rules.specs.Text.{Piece}
-use Rattle.rules.proofs.CutLaws.{Stops, at-end, at-one, wordsFrom, wordsFrom-blanks, wordsFrom-word}
+use Rattle.texts.specs.Text.{Piece}
+use Rattle.texts.proofs.CutLaws.{Stops, at-end, at-one, wordsFrom, wordsFrom-blanks, wordsFrom-word}
 use Rattle.reader.specs.Scan.{firstFrom}
 
 module _ (p : ℕ → Bool) where
@@ -121,3 +121,6 @@ module _ (p : ℕ → Bool) where
         word-here from (drop from text) starts (omega (arith, length-drop from text)) ∙
         ap₂ (λ (i : ℕ) (ts : List Piece). record { at = from; bytes = take i (drop from text) } ∷ ts) gap
         (ap₂ (λ (i : ℕ) (ys : List ℕ). wordsFrom p i ys) (sym there) (drop-drop n from text ∙ ap (λ (i : ℕ). drop i text) (sym there)))
+
+    pub words-onward : (to : ℕ) → to ≡ firstFrom p text from → from < length text → from < to
+    words-onward to there h = omega (arith, there, some-byte starts (omega (arith, length-drop from text)))

@@ -17,9 +17,9 @@ use lib.Dec.{eqb}
 use lib.ListN.{length, getD, take, drop, take-append-drop, drop-of-length-le}
 use lib.Seq.{drop-cons, drop-drop, length-take-le}
 use Rattle.rules.specs.Lists.{nthIndex}
-use Rattle.rules.specs.Text.{isLf, isBlank, isComment, Piece, tokensFrom}
+use Rattle.texts.specs.Text.{isLf, isBlank, isComment, Piece, tokensFrom}
 use Rattle.rules.proofs.ListLaws.{never}
-use Rattle.rules.proofs.BodyLaws.{tokens-blank, tokens-comment, tokens-word}
+use Rattle.texts.proofs.BodyLaws.{tokens-blank, tokens-comment, tokens-word}
 use Rattle.reader.specs.Scan.{firstFrom}
 use Rattle.reader.specs.Skips.{Passed, Past}
 use Rattle.reader.proofs.ScanLaws.{first-le, first-none, first-stops, from-le}

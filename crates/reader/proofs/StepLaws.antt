@@ -23,10 +23,10 @@ use lib.ListN.{length, take, drop, drop-of-length-le}
 use mir.Syntax.{w32}
 use mir.Val.{SFits, toZ, ofZ}
 use Rattle.rules.specs.declared.ReadAnswer.{ReadAnswer}
-use Rattle.rules.specs.Lists.{firstOf, orNext, countIf}
+use Rattle.rules.specs.Lists.{firstOf, orNext, countIf, isZero}
 use Rattle.rules.specs.Numbers.{maxEntries}
-use Rattle.rules.specs.Text.{isBlank, tokensFrom, entryOf}
-use Rattle.rules.specs.Reading.{Judged, unless, isZero, entryRules, withEntry, judgeToken, judgeEnd, endsText, orEnded, judgeTokens}
+use Rattle.texts.specs.Text.{isBlank, tokensFrom, entryOf}
+use Rattle.texts.specs.Reading.{Judged, unless, entryRules, withEntry, judgeToken, judgeEnd, endsText, orEnded, judgeTokens}
 use Rattle.reader.specs.declared.token.Entry.{Entry}
 use Rattle.reader.specs.declared.token.Token.{Token}
 use Rattle.reader.specs.declared.header.Header.{Header}
@@ -38,7 +38,7 @@ use Rattle.reader.specs.Skips.{Skips}
 use Rattle.reader.specs.Steps.{stepIf, entryStep, left, Judges, Steps}
 use Rattle.rules.proofs.ListLaws.{apart}
 use Rattle.rules.proofs.BitLaws.{toZ-ofZ-at}
-use Rattle.rules.proofs.BodyLaws.{tokens-nil}
+use Rattle.texts.proofs.BodyLaws.{tokens-nil}
 use Rattle.reader.proofs.ScanLaws.{from-le}
 use Rattle.reader.proofs.SkipLaws.{tokens-here, token-lt}
 use Rattle.reader.proofs.TokenLaws.{bad-of-token, entry-of-token}

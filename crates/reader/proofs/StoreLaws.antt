@@ -23,13 +23,13 @@ use lib.ListN.{length, getD, set, take, drop, replicate, length-append, length-d
 use lib.Seq.{drop-cons, set-at, length-take-le, take-suc-set, drop-set-lt, append-snoc}
 use Rattle.rules.specs.declared.ReadAnswer.{ReadAnswer}
 use Rattle.rules.specs.declared.Reading.{Reading}
-use Rattle.rules.specs.Lists.{check, firstOf, countIf}
+use Rattle.rules.specs.Lists.{check, firstOf, countIf, isZero}
 use Rattle.rules.specs.Numbers.{maxText, maxEntries}
-use Rattle.rules.specs.Text.{Piece, Sizes, isSkipped, headerOf, entryOf, linesOf, tokensFrom}
-use Rattle.rules.specs.Reading.{Judged, accepted, refused, unless, isZero, withEntry, judgeToken, judgeEnd, endsText, orEnded, judgeTokens, judgeSizes, fits}
-use Rattle.rules.specs.Reading.{judgeHeader, judgeLine, judgeLines, judge, returned, readingOf, filled, written, entriesAfter, Reads}
+use Rattle.texts.specs.Text.{Piece, Sizes, isSkipped, headerOf, entryOf, linesOf, tokensFrom}
+use Rattle.texts.specs.Reading.{Judged, accepted, refused, unless, withEntry, judgeToken, judgeEnd, endsText, orEnded, judgeTokens, judgeSizes, fits}
+use Rattle.texts.specs.Reading.{judgeHeader, judgeLine, judgeLines, judge, returned, readingOf, filled, written, entriesAfter, Reads}
 use Rattle.rules.proofs.ListLaws.{never}
-use Rattle.rules.proofs.JudgeLaws.{withEntries, withEntries-refused, withEntries-accepted}
+use Rattle.texts.proofs.JudgeLaws.{withEntries, withEntries-refused, withEntries-accepted}
 use Rattle.reader.specs.declared.header.Header.{Header}
 use Rattle.reader.specs.declared.tokens.Cursor.{Cursor}
 use Rattle.reader.specs.Words.{sizes}

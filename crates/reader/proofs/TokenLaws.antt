@@ -15,7 +15,7 @@ use borrow.Author.Tests.{ne-eqb}
 use lib.IntN.{ℤ, pos, negsuc}
 use lib.ListN.{length, getD, take, drop}
 use lib.Seq.{take-all}
-use Rattle.rules.specs.Text.{isNumeral, numeral, negativeOf, entryIf, entryOf}
+use Rattle.texts.specs.Text.{isNumeral, numeral, negativeOf, entryIf, entryOf}
 use Rattle.reader.specs.declared.number.Number.{Number}
 use Rattle.reader.specs.declared.token.Entry.{Entry}
 use Rattle.reader.specs.declared.token.Token.{Token}

@@ -4,3 +4,4 @@ pub mod Words
 pub mod Lines
 pub mod Steps
 pub mod Stores
+pub mod Next

@@ -4,8 +4,8 @@ use mathlib.Core.List.{List, [], _∷_}
 use Prim.Native.Nat.{ℕ, _+_, _-_}
 use lib.ListN.{length, take, drop}
 use Rattle.rules.specs.Lists.{all}
-use Rattle.rules.specs.Text.{Piece, isBlank, isComment, isSkipped, headerOf}
-use Rattle.rules.specs.Reading.{Judged, judgeHeader}
+use Rattle.texts.specs.Text.{Piece, isBlank, isComment, isSkipped, headerOf}
+use Rattle.texts.specs.Reading.{Judged, judgeHeader}
 use Rattle.reader.specs.declared.line.Line.{Line}
 
 -- a line before the header, by its bytes

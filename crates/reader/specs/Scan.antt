@@ -4,7 +4,7 @@ use mathlib.Core.List.{List}
 use Prim.Native.Nat.{ℕ, _+_}
 use lib.ListN.{drop}
 use Rattle.rules.specs.Lists.{nthIndex}
-use Rattle.rules.specs.Text.{isLf, isGap, isBlank}
+use Rattle.texts.specs.Text.{isLf, isGap, isBlank}
 use Rattle.reader.specs.declared.scan.Wanted.{Wanted}
 
 abbrev pub isWanted : Wanted → ℕ → Bool

@@ -4,7 +4,7 @@ use mathlib.Core.Bool.{false}
 use mathlib.Core.List.{List}
 use Prim.Native.Nat.{ℕ, _≤_, _<_}
 use lib.ListN.{length, getD, drop}
-use Rattle.rules.specs.Text.{isBlank, tokensFrom}
+use Rattle.texts.specs.Text.{isBlank, tokensFrom}
 
 -- no token stands from `at` up to r
 pub record Passed (text : List ℕ) (at r : ℕ) : Type 0 where

@@ -6,10 +6,10 @@ use Prim.Native.Nat.{ℕ, _+_, _≤_, _<_}
 use lib.IntN.{ℤ, natAbs}
 use lib.ListN.{length, drop}
 use Rattle.rules.specs.declared.ReadAnswer.{ReadAnswer}
-use Rattle.rules.specs.Lists.{countIf, firstOf}
+use Rattle.rules.specs.Lists.{countIf, firstOf, isZero}
 use Rattle.rules.specs.Numbers.{maxEntries}
-use Rattle.rules.specs.Text.{tokensFrom}
-use Rattle.rules.specs.Reading.{Judged, accepted, refused, isZero, entryRules, withEntry, judgeTokens}
+use Rattle.texts.specs.Text.{tokensFrom}
+use Rattle.texts.specs.Reading.{Judged, accepted, refused, entryRules, withEntry, judgeTokens}
 use Rattle.reader.specs.declared.header.Header.{Header}
 use Rattle.reader.specs.declared.tokens.Cursor.{Cursor}
 use Rattle.reader.specs.declared.tokens.Step.{Step}

@@ -6,7 +6,7 @@ use lib.IntN.{ℤ, pos}
 use lib.ListN.{length, take, drop, replicate}
 use Rattle.rules.specs.declared.Reading.{Reading}
 use Rattle.rules.specs.Numbers.{maxEntries}
-use Rattle.rules.specs.Reading.{Judged, accepted, refused, returned}
+use Rattle.texts.specs.Reading.{Judged, accepted, refused, returned}
 
 -- zeros from the index `from` up to `to`
 abbrev pub cleared : List ℤ → ℕ → ℕ → List ℤ

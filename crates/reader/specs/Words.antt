@@ -7,7 +7,7 @@ use mathlib.Core.Option.{Option, none, some}
 use Prim.Native.Nat.{ℕ, zero, suc, _≤_}
 use lib.IntN.{ℤ, pos, negsuc, negℤ}
 use lib.ListN.{length, take}
-use Rattle.rules.specs.Text.{Sizes, isNumeral, numeral, trimmed}
+use Rattle.texts.specs.Text.{Sizes, isNumeral, numeral, trimmed}
 use Rattle.reader.specs.declared.number.Number.{Number}
 use Rattle.reader.specs.declared.header.Header.{Header}
 use Rattle.reader.specs.declared.header.HeaderLine.{HeaderLine}

@@ -1,7 +1,7 @@
 // Answers: docs/RULES.md, "What comes back". A refusal as it is returned.
 ghost use mathlib.Core.Path.{_≡_};
-ghost use Rattle.rules.specs.Reading.{returned};
-ghost use Rattle.rules.specs.Reading.{refused as Judged·refused};
+ghost use Rattle.texts.specs.Reading.{returned};
+ghost use Rattle.texts.specs.Reading.{refused as Judged·refused};
 use rules::ReadAnswer;
 use rules::Reading;
 

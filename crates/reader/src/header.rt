@@ -2,7 +2,7 @@
 ghost use mathlib.Core.Path.{_≡_};
 ghost use mathlib.Core.List.{[], _∷_};
 ghost use Rattle.rules.specs.Lists.{eqs, cut};
-ghost use Rattle.rules.specs.Text.{isGap, wordsOf, sizesOf, headerOf};
+ghost use Rattle.texts.specs.Text.{isGap, wordsOf, sizesOf, headerOf};
 ghost use Rattle.reader.specs.Words.{headerLine, Trims};
 use crate::number::Number;
 use crate::number::number_of;

@@ -3,18 +3,19 @@
 mod answer;
 mod header;
 mod line;
+pub mod next;
 mod number;
-mod scan;
+pub mod scan;
 mod skip;
-mod store;
+pub mod store;
 pub mod token;
 mod tokens;
 
 ghost use Prim.Native.Nat.{_≤_};
 ghost use lib.ListN.{length};
 ghost use Rattle.rules.specs.Numbers.{maxEntries};
-ghost use Rattle.rules.specs.Text.{linesOf};
-ghost use Rattle.rules.specs.Reading.{Reads, judgeLines};
+ghost use Rattle.texts.specs.Text.{linesOf};
+ghost use Rattle.texts.specs.Reading.{Reads, judgeLines};
 ghost use Rattle.reader.specs.Lines.{judgeLineAt};
 ghost use Rattle.reader.specs.Stores.{Stores};
 use answer::refused;

@@ -1,6 +1,6 @@
 // Lines before the header: docs/RULES.md, "The text". They are blanks, or their first byte is `c`.
 ghost use mathlib.Core.Path.{_≡_};
-ghost use Rattle.rules.specs.Text.{linesOf};
+ghost use Rattle.texts.specs.Text.{linesOf};
 ghost use Rattle.reader.specs.Lines.{skipped, firstLine};
 use crate::scan::Wanted;
 use crate::scan::find;

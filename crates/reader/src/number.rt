@@ -1,6 +1,6 @@
 // Numerals: docs/RULES.md, "The text". 1 to 9 digits, so a value is below 1,000,000,000 and fits.
 ghost use mathlib.Core.Path.{_≡_};
-ghost use Rattle.rules.specs.Text.{isDigit};
+ghost use Rattle.texts.specs.Text.{isDigit};
 ghost use Rattle.reader.specs.Words.{numberOf};
 
 fn is_digit(b: u8) -> bool

@@ -1,6 +1,6 @@
 // Bytes and the search for one: docs/RULES.md, "The text". Lines, words and tokens are found by `find` alone.
 ghost use mathlib.Core.Path.{_≡_};
-ghost use Rattle.rules.specs.Text.{isGap, isBlank};
+ghost use Rattle.texts.specs.Text.{isGap, isBlank};
 ghost use Rattle.reader.specs.Scan.{isWanted, firstFrom};
 
 // What a search is for: LF; a space or tab, or a byte that is none; a blank, or a byte that is none.

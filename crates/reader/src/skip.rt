@@ -3,7 +3,7 @@ ghost use mathlib.Core.Path.{_≡_};
 ghost use mathlib.Core.Bool.{true};
 ghost use Prim.Native.Nat.{_<_};
 ghost use lib.ListN.{length, getD, drop};
-ghost use Rattle.rules.specs.Text.{isBlank, isComment};
+ghost use Rattle.texts.specs.Text.{isBlank, isComment};
 ghost use Rattle.reader.specs.Skips.{Past, Skips};
 use crate::scan::Wanted;
 use crate::scan::find;

@@ -8,7 +8,7 @@ use rules::MAX_ENTRIES;
 
 // Zeros from the index `from` up to the 4,096th entry.
 // Rules out: the 4,096th entry as it was; the list cleared with the rest.
-// Required of: read, which has asked for 4,096 entries and counts no more.
+// Required of: read and groups::read_groups, which have asked for 4,096 entries and count no more.
 pub fn clear(entries: &mut [i32], from: usize)
     requires { ⌜ (from ≤ maxEntries) × (maxEntries ≤ length (now entries)) ⌝ }
     ensures { λ _. ⌜ now (entries .exit) ≡ cleared (now (entries .entry)) from maxEntries ⌝ }

@@ -1,6 +1,6 @@
 // Tokens: docs/RULES.md, "The text". An optional `-` and 1 to 9 digits; a minus before zeros alone is malformed.
 ghost use mathlib.Core.Path.{_≡_};
-ghost use Rattle.rules.specs.Text.{entryOf};
+ghost use Rattle.texts.specs.Text.{entryOf};
 ghost use Prim.Native.Nat.{_≤_};
 ghost use Rattle.reader.specs.Words.{tokenOf, signedToken, maxNumber, valueOf};
 use crate::number::Number;

@@ -3,7 +3,7 @@ ghost use mathlib.Core.Path.{_≡_};
 ghost use Prim.Native.Nat.{_≤_};
 ghost use lib.ListN.{length};
 ghost use Rattle.rules.specs.Numbers.{maxVars, maxEntries};
-ghost use Rattle.rules.specs.Reading.{endsText};
+ghost use Rattle.texts.specs.Reading.{endsText};
 ghost use Rattle.reader.specs.Words.{valueOf, sizes};
 ghost use Rattle.reader.specs.Steps.{entryStep, Steps, start, left};
 ghost use Rattle.reader.specs.Stores.{Stores};

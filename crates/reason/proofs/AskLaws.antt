@@ -33,8 +33,7 @@ use Rattle.formula.proofs.ClauseLaws.{callClauses-formula, nil-up-to}
 use Rattle.formula.proofs.StartsLaws.{found-front}
 use Rattle.search.specs.declared.meter.Meter.{Meter}
 use Rattle.search.specs.declared.call.CallEnd.{CallEnd}
-use Rattle.search.specs.Closings.{CallOver}
-use Rattle.search.specs.Calls.{CallEnds}
+use Rattle.search.specs.Calls.{CallOver, CallEnds}
 use Rattle.reason.specs.Asks.{Asked, EndsAs, MarkedBelow, VisitDone, blankCall, markedCall, markBy, question}
 use Rattle.search.proofs.EndLaws.{was-model}
 use Rattle.reason.proofs.CallLaws.{ends-none, ends-stopped}
@@ -240,7 +239,13 @@ module _ {vars : ℕ} {es kept : List ℤ} {l : ℤ} {starts marks : List ℕ} (
       rw e
       (record {
         formula =
-            record { vars-fit = w .asks .vars-fit; starts-fit = omega (arith, w .asks .entries-fit); starts-are = found-front f; up-to = w .asks .up-to };
+            record {
+              vars-fit = w .asks .vars-fit;
+              entries-most = omega (arith, w .asks .entries-fit);
+              clauses-most = omega (arith, w .asks .clauses-fit);
+              starts-are = found-front f;
+              up-to = w .asks .up-to;
+            };
         constraint-up-to = nil-up-to vars;
         total-most = omega (arith, f .count-is);
       })

@@ -29,8 +29,7 @@ use Rattle.rules.proofs.BitLaws.{toZ-ofZ-at}
 use Rattle.formula.proofs.SignedLaws.{fits-of-var}
 use Rattle.formula.proofs.StartsLaws.{found-front}
 use Rattle.search.specs.declared.call.CallEnd.{CallEnd}
-use Rattle.search.specs.Closings.{CallOver}
-use Rattle.search.specs.Calls.{CallEnds}
+use Rattle.search.specs.Calls.{CallOver, CallEnds}
 use Rattle.search.proofs.EndLaws.{undone, none-not-model, was-none, was-stopped}
 use Rattle.reason.specs.Kept.{MarkRoom, MarkedPut}
 use Rattle.reason.specs.Asks.{Asked, MarkedOver}
@@ -73,7 +72,14 @@ module _ {vars n : ℕ} {es : List ℤ} {l : ℤ} {starts after : List ℕ} (w :
   pub over-marked : (con : List ℤ) → con ≡ negated l ∷ [] → CallOver vars es (take (n + 1) after) con (n + 1)
   over-marked con e =
       record {
-        formula = record { vars-fit = w .vars-fit; starts-fit = omega (arith, w .entries-fit); starts-are = found-front f; up-to = w .up-to };
+        formula =
+            record {
+              vars-fit = w .vars-fit;
+              entries-most = omega (arith, w .entries-fit);
+              clauses-most = omega (arith, w .clauses-fit);
+              starts-are = found-front f;
+              up-to = w .up-to;
+            };
         constraint-up-to = rw e (unit-up-to l (w .literal-up-to));
         total-most = omega (arith, f .count-is);
       }
@@ -99,6 +105,7 @@ module _ {vars : ℕ} {es kept : List ℤ} {l : ℤ} {starts marks : List ℕ} (
           entries-fit = omega (arith, length-take-le n after kept-len, p .within, w .asks .entries-fit);
           up-to = λ k i. w .asks .up-to k (marked-in marks es (rw (p .front) at i));
           literal-up-to = w .asks .literal-up-to;
+          clauses-fit = rw (p .front, clauses-marked marks es) (omega (arith, length-marked marks (clauses es), w .asks .clauses-fit));
           starts-room = rw (p .front, clauses-marked marks es) (omega (arith, length-marked marks (clauses es), w .starts-room));
         }
 

@@ -39,6 +39,7 @@ FalseCalled F vars l m r after = CallEnds (markedCall F vars l m) (blank vars) (
 pub record MarkedOver (vars : ℕ) (es : List ℤ) (l : ℤ) (starts : List ℕ) : Type 0 where
   pub vars-fit : vars ≤ maxVars
   pub entries-fit : length es ≤ maxEntries
+  pub clauses-fit : length (clauses es) ≤ maxClauses
   pub up-to : (k : ℤ) → In k es → varOf k ≤ vars
   pub literal-up-to : LitUpTo vars l
   pub starts-room : length (clauses es) < length starts

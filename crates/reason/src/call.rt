@@ -5,13 +5,13 @@ use formula::lit::negated;
 use formula::starts::find_starts;
 use rules::Lit;
 use search::call::CallEnd;
-use search::call::go_on;
 use search::meter::Meter;
+use search::whole::whole_call;
 ghost use lib.ListN.{length};
 ghost use Rattle.rules.specs.Meaning.{clauses};
 ghost use Rattle.rules.specs.Why.{marked};
 ghost use Rattle.formula.specs.Starts.{callClauses};
-ghost use Rattle.search.specs.Closings.{CallOver};
+ghost use Rattle.search.specs.Calls.{CallOver};
 ghost use Rattle.reason.specs.Asks.{Asked, MarkedOver, BlankCalled, FalseCalled};
 
 // What a question asks next: its literal, a number of clauses or the index of one, and the meter so far.
@@ -37,7 +37,7 @@ pub fn blank_call<'a>(
         r (now (values .exit)) ⌝ }
 {
     clear_bytes(values);
-    go_on(entries, starts, constraint, total, values, meter)
+    whole_call(entries, starts, constraint, total, values, meter)
 }
 
 // A call on the clauses that were put, with the literal false.

@@ -14,9 +14,8 @@ use native.Mathlib.Omega.{arith}
 use lib.IntN.{ℤ}
 use lib.ListN.{length}
 use Rattle.rules.specs.declared.Refusal.{Refusal}
-use Rattle.rules.specs.Lists.{count, nthIndex, Check, firstOf}
+use Rattle.rules.specs.Lists.{count, nthIndex, Check, firstOf, isZero}
 use Rattle.rules.specs.Numbers.{maxClauses, maxEntries, maxHeld}
-use Rattle.rules.specs.Reading.{isZero}
 use Rattle.rules.specs.Held.{isNoLiteral, heldRules}
 use Rattle.rules.specs.Answer.{isEnded, isAbove, listRules}
 use Rattle.rules.proofs.ListLaws.{any-of-count, count-zero}

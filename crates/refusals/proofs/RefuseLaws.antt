@@ -20,8 +20,7 @@ use lib.Seq.{drop-cons}
 use mir.Syntax.{w32}
 use mir.Val.{ofZ}
 use borrow.Author.Tests.{eqb-true, eq-eqb}
-use Rattle.rules.specs.Lists.{indexIf, nthIndex}
-use Rattle.rules.specs.Reading.{isZero}
+use Rattle.rules.specs.Lists.{indexIf, nthIndex, isZero}
 use Rattle.rules.specs.Answer.{isEnded}
 use Rattle.rules.proofs.ListLaws.{same-test, eqz-sound, eqz-complete, eqz-other}
 use Rattle.formula.proofs.SignedLaws.{ofZ-inj}

@@ -1,8 +1,7 @@
 // What is refused of an entry list and of held literals, in the order 10, 1, 11, 12, 15, 13 (docs/RULES.md, "What comes back"). 10 and 1 are of
 // whoever takes them, 11 and 12 the list's own, 15 and 13 the held literals'. Nobody has to check any first.
 ghost use mathlib.Core.Path.{_≡_};
-ghost use Rattle.rules.specs.Lists.{nthIndex, firstOf};
-ghost use Rattle.rules.specs.Reading.{isZero};
+ghost use Rattle.rules.specs.Lists.{nthIndex, firstOf, isZero};
 ghost use Rattle.rules.specs.Answer.{isEnded, isAbove, listRules, takingRules, outOfLimits, tooShort};
 ghost use Rattle.refusals.specs.Refuse.{found};
 use rules::Refusal;

@@ -7,6 +7,7 @@
 --   room-sound, room-complete, room-false, room-of     the test of 1, both ways
 --   list-false                    a list that no case of 11 refuses
 --   list-long-first, not-ended-first, zero-over-first, above-first, list-first     the first rule that refuses a list, or none
+--   lent-alone                    a run of a list for which nothing else is wrong has room
 --   refusal-lent                  where 10 and 1 are not to be given, the refusal is the list's or the held literals'
 --   first-front, first-back       the first of two lists of rules
 --   no-literal-sound, no-literal-complete, no-literal-false, no-literal-of     the test of 13, both ways
@@ -22,16 +23,15 @@ use Prim.Native.Nat.{ℕ, zero, suc, _≤_, _<_}
 use native.Mathlib.Omega.{arith}
 use lib.IntN.{ℤ}
 use lib.Dec.{eqb, ltb}
-use lib.ListN.{length, length-append}
+use lib.ListN.{length, length-append, length-replicate}
 use borrow.Author.Tests.{eqb-true, eqb-false, eq-eqb, ne-eqb, ltb-true, ltb-false, lt-ltb, le-ltb}
 use Rattle.rules.specs.declared.Refusal.{Refusal}
-use Rattle.rules.specs.Lists.{any, count, countIf, indexIf, nthIndex, Check, orNext, firstOf}
+use Rattle.rules.specs.Lists.{any, count, countIf, indexIf, nthIndex, Check, orNext, firstOf, isZero}
 use Rattle.rules.specs.Numbers.{maxVars, maxClauses, maxEntries, maxChunk, maxHeld}
 use Rattle.rules.specs.Meaning.{varOf, LitUpTo}
-use Rattle.rules.specs.Reading.{isZero}
 use Rattle.rules.specs.Held.{isNoLiteral, heldRules}
 use Rattle.rules.specs.Answer.{Given, logLength, isEnded, isAbove, listRules, outOfLimits, isShort, refusalOf}
-use Rattle.rules.specs.RunRefusals.{InLimits, Lent, TooShort, short-status, short-calls, short-ways, short-hints, short-log, Listed}
+use Rattle.rules.specs.RunRefusals.{InLimits, Lent, TooShort, short-status, short-calls, short-ways, short-hints, short-log, Listed, listAlone}
 use Rattle.rules.proofs.ListLaws.{apart, le-or-lt, never, or-cases, or-left, or-right}
 
 -- ---- the element that passes and has n passing elements before it
@@ -237,6 +237,18 @@ module _ (g : Given) where
   pub refusal-lent : Lent g → refusalOf g ≡ firstOf (listRules (g .entries) (g .vars) ++ heldRules (g .held) (g .vars))
   unfolding refusalOf
   refusal-lent w = rw (limits-of (w .in-limits), room-of w)
+
+-- a run of a list for which nothing else is wrong has room
+pub lent-alone : (es : List ℤ) (vars : ℕ) → vars ≤ maxVars → Lent (listAlone es vars)
+lent-alone es vars h =
+    record {
+      in-limits = record { vars-fit = h; limit-some = omega arith; limit-fits = omega arith };
+      status-fits = omega (arith, length-replicate {A = ℕ} vars 0);
+      calls-fit = omega (arith, length-replicate {A = ℕ} vars 0);
+      ways-fit = omega (arith, length-replicate {A = ℕ} vars 0);
+      hints-fit = omega (arith, length-replicate {A = ℕ} vars 0);
+      log-fits = omega (arith, length-replicate {A = ℕ} (logLength vars) 0);
+    }
 
 -- ---- the list's rules: the first that refuses it
 

@@ -13,9 +13,8 @@ use Prim.Native.Nat.{zero, suc, _≤_}
 use native.Mathlib.Omega.{arith}
 use lib.IntN.{ℤ, pos, negsuc, natAbs}
 use lib.ListN.{length}
-use Rattle.rules.specs.Lists.{In, count, countIf}
+use Rattle.rules.specs.Lists.{In, count, countIf, isZero}
 use Rattle.rules.specs.Meaning.{Clause, varOf, leading, clauses}
-use Rattle.rules.specs.Reading.{isZero}
 use Rattle.rules.proofs.ListLaws.{eqz-other}
 
 -- ---- how many

@@ -1,10 +1,12 @@
 -- The laws of specs/Held: models of a formula with held literals, its entries, and both signs of a variable held.
 --
+--   hasTrue-unit                  a clause of one literal is true if that is
 --   held-sound, held-complete     a model of the formula with the held literals is one of the formula that has them all, and back
 --   withHeld-nil, withHeld-append, length-withHeld     no held literal; a longer list; how many clauses
 --   clauses-append, clauses-held  the entries of the held literals behind a list that is empty or ended by 0
 --   length-heldEntries, length-listWith, listWith-up-to     two entries for each held literal; the whole list, and its variables
 --   unit-calm                     a clause of one literal that neither stops a round nor sets anything is true
+--   not-both                      no values make both signs true
 --   closing-signs, callOn-signs   both signs of a variable held: a clash, and no try
 --
 -- Assumes nothing.
@@ -20,9 +22,8 @@ use lib.ListN.{length, length-append, length-map}
 use borrow.Author.Tests.{eqb-true, ne-eqb}
 use Rattle.rules.specs.declared.ClauseState.{ClauseState}
 use Rattle.rules.specs.declared.ClauseState.the-variants.{False, Unit, True, Undecided}
-use Rattle.rules.specs.Lists.{In}
+use Rattle.rules.specs.Lists.{In, isZero}
 use Rattle.rules.specs.Meaning.{Clause, Values, varOf, negated, LitUpTo, leading, clauses, valueAt, isTrue, hasTrue, Model}
-use Rattle.rules.specs.Reading.{isZero}
 use Rattle.rules.specs.Closing.{stateOf, Closed, clash, closed, closing}
 use Rattle.rules.specs.Search.{no-model, onClosed, callOn}
 use Rattle.rules.specs.Answer.{isEnded}
@@ -35,7 +36,7 @@ use Rattle.rules.proofs.CallLaws.{callOn-next}
 -- ---- models
 
 -- a clause of one literal is true if that literal is
-hasTrue-unit : (m : Values) (l : ℤ) → hasTrue m (unitClause l) ≡ isTrue m l
+pub hasTrue-unit : (m : Values) (l : ℤ) → hasTrue m (unitClause l) ≡ isTrue m l
 hasTrue-unit m l = or-false (isTrue m l)
 
 module _ {n : ℕ} {F : List Clause} {held : List ℤ} {m : Values} where
@@ -161,7 +162,7 @@ unit-calm vs l c = go (stateOf vs (unitClause l)) (means vs (unitClause l)) c
         absurd (never (eqz-complete (m .one) (m .two) (a ∙ sym b)) (m .differ))
 
 -- no values make both signs true
-not-both : (vs : Values) (l : ℤ) → 1 ≤ varOf l → isTrue vs l ≡ true → isTrue vs (negated l) ≡ true → ⊥
+pub not-both : (vs : Values) (l : ℤ) → 1 ≤ varOf l → isTrue vs l ≡ true → isTrue vs (negated l) ≡ true → ⊥
 not-both vs (pos zero) h a b = omega arith
 not-both vs (pos (suc n)) h a b =
     let two : valueAt vs n ≡ 2 = eqb-true (valueAt vs n) 2 a in

@@ -15,6 +15,7 @@
 --   satisfies-covers, satisfies-same, covers-refl, covers-append     clauses read as sets of literals
 --   total-of-set                  values with no unset variable are total
 --   blank-proper, blank-extends   values with no variable set
+--   unset-within                  a variable that is unset is one of the values
 --   unsets-set, unsets-assign, unsets-le     how many variables are unset
 --
 -- Assumes nothing.
@@ -22,7 +23,7 @@ use mathlib.Core.Path.{_≡_, refl, sym, _∙_, ap}
 use mathlib.Core.Logic.{_≢_, _⊎_, inl, inr, _↔_}
 use mathlib.Core.Bool.{true, false}
 use mathlib.Core.List.{List, [], _∷_, _++_, List·Memᴰ·append-cases, Memᴰ·append-left, Memᴰ·append-right}
-use Prim.Native.Nat.{ℕ, zero, suc, _≤_}
+use Prim.Native.Nat.{ℕ, zero, suc, _≤_, _<_}
 use native.Mathlib.Omega.{arith}
 use lib.IntN.{ℤ, pos, negsuc}
 use lib.Dec.{eqb}
@@ -224,6 +225,11 @@ blank-extends n m e = record { agrees = go n m e }
     go (suc n) [] e i h = absurd (omega arith)
     go (suc n) (b ∷ m) e zero h = absurd (h refl)
     go (suc n) (b ∷ m) e (suc i) h = go n m (omega arith) i h
+
+pub unset-within : (vs : Values) (i : ℕ) → valueAt vs i ≡ 0 → i < length vs
+unset-within [] i z = absurd (omega arith)
+unset-within (b ∷ vs) zero z = omega arith
+unset-within (b ∷ vs) (suc i) z = omega (arith, unset-within vs i z)
 
 pub unsets-set : (vs : Values) (i b : ℕ) → valueAt vs i ≡ 0 → suc (unsets (set vs i (suc b))) ≡ unsets vs
 unsets-set [] i b h = absurd (omega arith)

@@ -17,10 +17,9 @@ use lib.Dec.{ltb}
 use lib.ListN.{length}
 use borrow.Author.Tests.{ltb-true, ltb-false, lt-ltb, le-ltb}
 use Rattle.rules.specs.declared.Refusal.{Refusal}
-use Rattle.rules.specs.Lists.{any, count, nthIndex, orNext, firstOf}
+use Rattle.rules.specs.Lists.{any, count, nthIndex, orNext, firstOf, isZero}
 use Rattle.rules.specs.Numbers.{maxClauses, maxEntries, maxHeld}
 use Rattle.rules.specs.Meaning.{varOf}
-use Rattle.rules.specs.Reading.{isZero}
 use Rattle.rules.specs.Held.{isNoLiteral, heldRules}
 use Rattle.rules.specs.Answer.{Given, isEnded, isAbove, listRules, outOfLimits, isShort, refusalOf}
 use Rattle.rules.specs.RunRefusals.{InLimits, Lent, Listed, Formed, Accepted, RunRefuses, bad-limits}

@@ -9,6 +9,7 @@
 --   indexOf-lt            the index of a literal up to n
 --   settled-model         a settled run has found a model
 --   settled-none-open     a settled run leaves no variable open
+--   free-alike, forced-alike, settled-alike     formulas with the same models
 --   settled-same          budget and chunk limit never change a settled status
 --   no-model-exactly      20 is answered exactly if there is no model, unless stopped
 --   run-statuses          there is a status for each variable, and it is 0, 1, 2 or 3
@@ -229,7 +230,15 @@ module _ (k : Task) (limit : 1 ≤ k .limit) where
       complete (settled {p = p} r o) z f = absurd (f .none (p .first) (first-model-is (known r)))
       complete (next-stopped t r o e) z f = absurd (z refl)
 
--- ---- two settled runs of one formula
+-- ---- two formulas with the same models
+
+pub free-alike : {n : ℕ} {F G : List Clause} {i : ℕ} → ((m : Values) → Model n F m → Model n G m) → Free n F i → Free n G i
+free-alike f d =
+    record { one = d .one; two = d .two; one-is = f (d .one) (d .one-is); two-is = f (d .two) (d .two-is); differ = d .differ }
+
+pub forced-alike : {n : ℕ} {F G : List Clause} {l : ℤ} → ((m : Values) → Model n F m ↔ Model n G m) → Forced n F l → Forced n G l
+forced-alike f w =
+    record { some-model = w .some-model; is-model = f (w .some-model) .0 (w .is-model); in-all = λ m x. w .in-all m (f m .1 x) }
 
 forcedValue-inj : (s t : ℕ) → 2 ≤ s → s ≤ 3 → 2 ≤ t → t ≤ 3 → forcedValue s ≡ forcedValue t → s ≡ t
 forcedValue-inj zero t a b c d e = absurd (omega arith)
@@ -241,14 +250,16 @@ forcedValue-inj (suc (suc zero)) (suc (suc (suc t))) a b c d e = absurd (omega a
 forcedValue-inj (suc (suc (suc s))) (suc (suc zero)) a b c d e = absurd (omega arith)
 forcedValue-inj (suc (suc (suc s))) (suc (suc (suc t))) a b c d e = omega arith
 
-pub settled-same : (k : Task) (budget limit : ℕ) → 1 ≤ k .limit → 1 ≤ limit → run k .answer ≡ RunAnswer.Settled
-    → run (withLimits k budget limit) .answer ≡ RunAnswer.Settled
-    → run k .progress .statuses ≡ run (withLimits k budget limit) .progress .statuses
-settled-same k budget limit h g a b =
+-- settled runs of two formulas with the same models, of as many variables, give the same statuses, whatever their budgets and chunk limits
+pub settled-alike : (k : Task) (budget limit : ℕ) (G : List Clause) → ((m : Values) → Model (k .vars) (k .formula) m ↔ Model (k .vars) G m)
+    → 1 ≤ k .limit → 1 ≤ limit → run k .answer ≡ RunAnswer.Settled
+    → run (record { vars = k .vars; budget = budget; limit = limit; formula = G }) .answer ≡ RunAnswer.Settled
+    → run k .progress .statuses ≡ run (record { vars = k .vars; budget = budget; limit = limit; formula = G }) .progress .statuses
+settled-alike k budget limit G models h g a b =
     ext-getD 1 ss ts (run-statuses k h .0 ∙ sym (run-statuses j g .0)) (λ i l. same i (kinds k h a i) (kinds j g b i) (rw (run-statuses k h .0) at l))
   where
     j : Task
-    j = withLimits k budget limit
+    j = record { vars = k .vars; budget = budget; limit = limit; formula = G }
 
     ss : List ℕ
     ss = run k .progress .statuses
@@ -265,7 +276,7 @@ settled-same k budget limit h g a b =
     free-both i l =
         let one = settled-free k h a i l in
         let two = settled-free j g b i l in
-        (λ e. two .1 (one .0 e), λ e. one .1 (two .0 e))
+        (λ e. two .1 (free-alike (λ m. models m .0) (one .0 e)), λ e. one .1 (free-alike (λ m. models m .1) (two .0 e)))
 
     same : (i : ℕ) → (statusAt ss i ≡ 1) ⊎ (2 ≤ statusAt ss i) → (statusAt ts i ≡ 1) ⊎ (2 ≤ statusAt ts i) → i < k .vars → statusAt ss i ≡ statusAt ts i
     same i (inl e) q l = e ∙ sym (free-both i l .0 e)
@@ -275,4 +286,10 @@ settled-same k budget limit h g a b =
         let (v, y) = settled-known j g b in
         let m = first-model-is w in
         forcedValue-inj (statusAt ss i) (statusAt ts i) p (w .small i) q (v .small i)
-        (sym (w .forced i p (run k .progress .first) m) ∙ v .forced i q (run k .progress .first) m)
+        (sym (w .forced i p (run k .progress .first) m) ∙ v .forced i q (run k .progress .first) (models (run k .progress .first) .0 m))
+
+-- of one formula
+pub settled-same : (k : Task) (budget limit : ℕ) → 1 ≤ k .limit → 1 ≤ limit → run k .answer ≡ RunAnswer.Settled
+    → run (withLimits k budget limit) .answer ≡ RunAnswer.Settled
+    → run k .progress .statuses ≡ run (withLimits k budget limit) .progress .statuses
+settled-same k budget limit = settled-alike k budget limit (k .formula) (λ m. (λ x. x, λ x. x))

@@ -1,15 +1,13 @@
 -- The theorems that we promise, one sentence each. Their statements speak of models, texts and tables; what they name stands in
 -- specs/, and their proofs in the files that the `use` lines name. Assumes nothing.
 use mathlib.Core.Path.{_≡_}
-use mathlib.Core.Logic.{_≢_, _⊎_, _↔_}
+use mathlib.Core.Logic.{_≢_, _↔_}
 use mathlib.Core.Bool.{true}
 use mathlib.Core.List.{List, [], _∷_, _++_, map}
 use mathlib.Core.Option.{none, some}
-use Prim.Native.Nat.{ℕ, suc, pred, _+_, _-_, _≤_, _<_}
-use lib.IntN.{ℤ, pos, negsuc}
+use Prim.Native.Nat.{ℕ, suc, pred, _+_, _≤_, _<_}
+use lib.IntN.{ℤ}
 use lib.ListN.{length, getD, take, drop, set, replicate}
-use Rattle.rules.specs.declared.ReadAnswer.{ReadAnswer}
-use Rattle.rules.specs.declared.Reading.{Reading}
 use Rattle.rules.specs.declared.Refusal.{Refusal}
 use Rattle.rules.specs.declared.RunAnswer.{RunAnswer}
 use Rattle.rules.specs.declared.Report.{Report}
@@ -19,12 +17,6 @@ use Rattle.rules.specs.declared.WhyAnswer.{WhyAnswer}
 use Rattle.rules.specs.declared.WhyReport.{WhyReport}
 use Rattle.rules.specs.declared.ClauseState.the-variants.{False}
 use Rattle.rules.specs.Lists.{In, all, count}
-use Rattle.rules.specs.Numbers.{maxText, maxEntries, maxHeld, readNumber, readPlace}
-use Rattle.rules.specs.Text.{Sizes}
-use Rattle.rules.specs.Reading.{readingOf, filled, entriesAfter, Reads}
-use Rattle.rules.specs.Grammar.{NoLf, TokenEnd, WithHeader, Dimacs}
-use Rattle.rules.specs.Refusals.{Refuses}
-use Rattle.rules.specs.Plain.{decimal, plain, entriesOf, Within}
 use Rattle.rules.specs.Meaning.{Clause, Values, valueAt, varOf, negated, indexOf, clauses, satisfies, isTrue, LitUpTo, Model, Proper, bitOf}
 use Rattle.rules.specs.Closing.{stateOf, under-way, round, again, unsets, closing, clash, closed}
 use Rattle.rules.specs.Rounds.{oneMore, rounds}
@@ -39,12 +31,11 @@ use Rattle.rules.specs.Records.{openRecord, recordAt, statusesOf, callsO
 use Rattle.rules.specs.Recorded.{Recorded, Counted, RecordsIn}
 use Rattle.rules.specs.Witness.{witnessAt, PairAt, FreeIn, Asked, askedTask, askedRefusal, askedReport, literalsFrom, firstAfter, witnessAfter}
 use Rattle.rules.specs.Witness.{asked, Witnesses, lentFor}
-use Rattle.rules.specs.WitnessPrinted.{witnessAsked, witnessTextOf, maxWitness, PrintsWitness}
 use Rattle.rules.specs.Hints.{hintsOf, HeldBy, FirstFalse}
-use Rattle.rules.specs.Answer.{Given, Buffers, given, logLength, refusalOf, taskOf, reportOfRun, reportOf, statusAfter, callsAfter, waysAfter, hintsAfter}
+use Rattle.rules.specs.Answer.{Given, Buffers, given, logLength, refusalOf, taskOf, reportOf, statusAfter, callsAfter, waysAfter, hintsAfter}
 use Rattle.rules.specs.Answer.{logOfRows, logAfter}
 use Rattle.rules.specs.Answer.{isFree, isForced, isEnded, plainRefusal, plainTask, Runs}
-use Rattle.rules.specs.Held.{withHeld, listWith, holding, Holdable, HeldModel}
+use Rattle.rules.specs.Held.{withHeld, listWith, holding, HeldModel}
 use Rattle.rules.specs.Order.{SameRules, SameHeld, withRules, SameTable}
 use Rattle.rules.specs.RunRefusals.{Accepted, RunRefuses}
 use Rattle.rules.specs.Setup.{SetupGiven, setupGiven, setupRefusal, setupRun, setupCall, setupAnswer, setupReport, setupValues}
@@ -52,10 +43,7 @@ use Rattle.rules.specs.Setup.{setupReportOf, setupValuesAfter, SetsUp, F
 use Rattle.rules.specs.Close.{CloseGiven, closeSetup, closeRefusal, closedSet, closeRounds, setBy, closeReport, closeValues, closeReportOf}
 use Rattle.rules.specs.Close.{closeValuesAfter, Closes, SameSets}
 use Rattle.rules.specs.Log.{LogOf}
-use Rattle.rules.specs.Printed.{forcedWord, freeWord, onWord, offWord, heldWord, refusedLine, tableOfRun, tableOf, maxTable, Prints}
-use Rattle.rules.specs.Tables.{lineAt, SaysAnswer, tableTask}
 use Rattle.rules.specs.Why.{Question, marked, why, FalseModel, WhyGiven, whyRefusal, Explains, WhyAccepted, WhyRefuses}
-use Rattle.rules.specs.WhyPrinted.{whyAsked, whyTextOf, maxWhy, PrintsWhy}
 use Rattle.rules.proofs.ClosingLaws as closing-laws
 use Rattle.rules.proofs.ClosingOrder as closing-order
 use Rattle.rules.proofs.RoundsLaws as rounds-laws
@@ -68,24 +56,15 @@ use Rattle.rules.proofs.CallTheorems as call-theorems
 use Rattle.rules.proofs.RefusedRuns as refused-runs
 use Rattle.rules.proofs.BufferTheorems as buffers
 use Rattle.rules.proofs.OrderTheorems as order-theorems
-use Rattle.rules.proofs.ReadingTheorems as reading
-use Rattle.rules.proofs.TextTheorems as texts
-use Rattle.rules.proofs.CommentTheorems as comments
-use Rattle.rules.proofs.PrintedLaws as printed
-use Rattle.rules.proofs.TableLaws as table-laws
-use Rattle.rules.proofs.TableTheorems as tables
 use Rattle.rules.proofs.WhyTheorems as reasons
 use Rattle.rules.proofs.WhyRefused as refused-reasons
 use Rattle.rules.proofs.Starred as run-cases
 use Rattle.rules.proofs.AnswerCases as more-cases
-use Rattle.rules.proofs.EdgeCases as edges
 use Rattle.rules.proofs.RecordTheorems as record-theorems
 use Rattle.rules.proofs.RecordCases as record-cases
 use Rattle.rules.proofs.WitnessTheorems as witness-theorems
 use Rattle.rules.proofs.WitnessCases as shown-cases
 use Rattle.rules.proofs.WhyCases as reason-cases
-use Rattle.rules.proofs.WhyText as reason-text
-use Rattle.rules.proofs.WitnessText as witness-text
 use Rattle.rules.proofs.HintTheorems as hints
 use Rattle.rules.proofs.HintCases as held-cases
 use Rattle.rules.proofs.HeldLaws as held-laws
@@ -97,61 +76,6 @@ use Rattle.rules.proofs.SetupCases as setup-runs
 use Rattle.rules.proofs.CloseTheorems as closings
 use Rattle.rules.proofs.CloseCases as closing-cases
 use Rattle.rules.proofs.AnswerHeld as chosen-cases
-
--- ---- the reader
-
--- A text is accepted, with V, C, its entries and the buffer filled, exactly if the grammar derives it.
-pub reader-agrees : (text : List ℕ) (before : List ℤ) → maxEntries ≤ length before → (s : Sizes) (es : List ℤ)
-    → Dimacs text (s .vars) (s .clauses) es
-    ↔ ((readingOf text before ≡ record { answer = ReadAnswer.Accepted; vars = s .vars; clauses = s .clauses; entries = length es })
-    × (entriesAfter text before ≡ filled es before))
-reader-agrees = reading.read-accepts
-
--- Each refusal number is given exactly when its rule says so.
-pub reader-refuses : (text : List ℕ) (before : List ℤ) (a : ReadAnswer) → a ≢ ReadAnswer.Accepted
-    → (readingOf text before .answer ≡ a) ↔ Refuses (length before) text a
-reader-refuses = reading.read-refuses
-
--- After 1 and 2 nothing is written.
-pub reader-keeps : (text : List ℕ) (before : List ℤ)
-    → (readNumber (readingOf text before .answer) ≡ 1) ⊎ (readNumber (readingOf text before .answer) ≡ 2)
-    → entriesAfter text before ≡ before
-reader-keeps = reading.refused-keeps
-
--- After 3 to 9 the first 4,096 entries are zeros, and the rest is as it was.
-pub reader-clears : (text : List ℕ) (before : List ℤ) → 3 ≤ readNumber (readingOf text before .answer)
-    → entriesAfter text before ≡ replicate 4096 (pos 0) ++ drop 4096 before
-reader-clears = reading.refused-clears
-
--- After every refusal V, C and the entry count are zero.
-pub reader-counts : (text : List ℕ) (before : List ℤ) → 1 ≤ readNumber (readingOf text before .answer)
-    → (readingOf text before .vars ≡ 0) × (readingOf text before .clauses ≡ 0) × (readingOf text before .entries ≡ 0)
-reader-counts = reading.refused-counts
-
--- An accepted text's entries stand in front, then zeros up to 4,096, and the rest is as it was.
-pub reader-fills : (text : List ℕ) (before : List ℤ) {vars clauses : ℕ} {es : List ℤ} → 4096 ≤ length before → Dimacs text vars clauses es
-    → (take (length es) (entriesAfter text before) ≡ es)
-    × (take (4096 - length es) (drop (length es) (entriesAfter text before)) ≡ replicate (4096 - length es) (pos 0))
-    × (drop 4096 (entriesAfter text before) ≡ drop 4096 before)
-reader-fills = reading.accepted-fills
-
--- Every formula within the sizes, printed plainly, is read back as itself.
-pub reader-round-trip : (vars : ℕ) (F : List Clause) (before : List ℤ) → Within vars F → maxEntries ≤ length before
-    → (readingOf (plain vars F) before ≡ record { answer = ReadAnswer.Accepted; vars = vars; clauses = length F; entries = length (entriesOf F) })
-    × (entriesAfter (plain vars F) before ≡ filled (entriesOf F) before)
-    × (clauses (entriesOf F) ≡ F)
-reader-round-trip = texts.round-trip
-
--- A comment line put at the start of any line behind the header changes neither V, C nor the entries.
-pub reader-comment : {front : List ℕ} (cs back : List ℕ) {vars clauses : ℕ} {es : List ℤ} → WithHeader front → NoLf cs
-    → length (front ++ 10 ∷ 99 ∷ cs ++ 10 ∷ back) ≤ maxText
-    → Dimacs (front ++ 10 ∷ back) vars clauses es ↔ Dimacs (front ++ 10 ∷ 99 ∷ cs ++ 10 ∷ back) vars clauses es
-reader-comment = comments.comment-line
-
--- An accepted text, whether or not LF ends it, with a line `%` and any bytes behind it is accepted with the same V, C and entries.
-pub reader-percent : (text tail : List ℕ) {vars clauses : ℕ} {es : List ℤ} → TokenEnd tail → length (text ++ 10 ∷ 37 ∷ tail) ≤ maxText
-    → Dimacs text vars clauses es ⊎ Dimacs (text ++ 10 ∷ []) vars clauses es → Dimacs (text ++ 10 ∷ 37 ∷ tail) vars clauses es
-reader-percent = comments.percent-line
 
 -- ---- closing
 
@@ -418,15 +342,6 @@ witness-pair = witness-theorems.asked-pair
 pub literal-for-each : (m : Values) (i : ℕ) (d : ℤ) → i < length m → getD (literalsFrom 0 m) i d ≡ literalAt (0 + i) (valueAt m i)
 literal-for-each = witness-theorems.literal-at 0
 
--- The two lines that are printed are never longer than 4,096 bytes, whatever the text and the variable.
-pub witness-bound : (text : List ℕ) (v : ℕ) → length (witnessTextOf text v) ≤ maxWitness
-witness-bound = witness-text.length-witnessTextOf
-
--- Of an accepted text nothing is refused but the variable.
-pub witness-only : {text : List ℕ} {vars n : ℕ} {es : List ℤ} → Dimacs text vars n es → (v : ℕ) (a : Refusal)
-    → askedRefusal (witnessAsked vars es v) ≡ some a → a ≡ Refusal.NotFree
-witness-only = witness-text.only-not-free
-
 -- ---- choices already made
 
 -- A model of the formula with the held literals is a model of the formula in which every held literal is true, and back.
@@ -579,55 +494,6 @@ pub close-writes : (g : CloseGiven) → Accepted (setupRun (closeSetup g))
     × (drop (g .vars) (closeValuesAfter g) ≡ drop (g .vars) (g .values))
 close-writes = closings.close-written
 
--- ---- the printed table
-
--- No table is longer than 9,216 bytes, whatever the text and the held literals.
-pub table-bound : (text : List ℕ) (held : List ℤ) → length (tableOf text held) ≤ maxTable
-table-bound = table-laws.length-tableOf
-
--- A refused text gets the line of its refusal and nothing else.
-pub table-refused : (text : List ℕ) (held : List ℤ) (a : ReadAnswer) → Refuses maxEntries text a
-    → tableOf text held ≡ refusedLine (readNumber a) (readPlace a)
-table-refused = tables.table-refused
-
--- So does an accepted text with more than 256 held literals,
-pub table-many-held : {text : List ℕ} {vars n : ℕ} {es : List ℤ} → Dimacs text vars n es → (held : List ℤ) → maxHeld < length held
-    → tableOf text held ≡ refusedLine 15 256
-table-many-held d = tables.table-many-held d
-
--- and one with a held literal that is 0 or above V, by the first of them.
-pub table-bad-held : {text : List ℕ} {vars n : ℕ} {es : List ℤ} → Dimacs text vars n es → (held : List ℤ) → length held ≤ maxHeld
-    → (front : List ℤ) (l : ℤ) (back : List ℤ) → held ≡ front ++ l ∷ back → ((k : ℤ) → In k front → LitUpTo vars k)
-    → (varOf l ≡ 0) ⊎ (vars < varOf l) → tableOf text held ≡ refusedLine 13 (length front)
-table-bad-held d = tables.table-bad-held d
-
-module _ {text : List ℕ} {vars n : ℕ} {es : List ℤ} (d : Dimacs text vars n es) {held : List ℤ} (h : Holdable vars held) where
-  -- The table of a text is that of the run on its entries with the held literals, with budget 1,000,000 and chunk limit 16.
-  pub table-of-run : tableOf text held ≡ tableOfRun vars (reportOfRun (run (tableTask vars es held))) (run (tableTask vars es held) .progress .statuses)
-      (hintsOf (tableTask vars es held))
-  table-of-run = tables.table-of-run d h
-
-  -- If its first line says answer 0, the line of a variable says `forced on` exactly if a model exists and all models make it true,
-  pub table-forced-on : SaysAnswer 0 (tableOf text held) → (i : ℕ) → i < vars
-      → (lineAt (tableOf text held) (suc i) ≡ decimal (suc i) ++ (forcedWord ++ onWord ++ heldWord ++ decimal (getD (hintsOf (tableTask vars es held)) i 0)))
-      ↔ Forced vars (withHeld (clauses es) held) (pos (suc i))
-  table-forced-on = tables.table-forced-on d h
-
-  -- `forced off` exactly if a model exists and all models make it false,
-  pub table-forced-off : SaysAnswer 0 (tableOf text held) → (i : ℕ) → i < vars
-      → (lineAt (tableOf text held) (suc i) ≡ decimal (suc i) ++ (forcedWord ++ offWord ++ heldWord ++ decimal (getD (hintsOf (tableTask vars es held)) i 0)))
-      ↔ Forced vars (withHeld (clauses es) held) (negsuc i)
-  table-forced-off = tables.table-forced-off d h
-
-  -- and `free` exactly if two models differ on it.
-  pub table-free : SaysAnswer 0 (tableOf text held) → (i : ℕ) → i < vars
-      → (lineAt (tableOf text held) (suc i) ≡ decimal (suc i) ++ freeWord) ↔ Free vars (withHeld (clauses es) held) i
-  table-free = tables.table-free d h
-
-  -- Unless its first line says answer 21, it says 20 exactly if there is no model.
-  pub table-no-model : (SaysAnswer 21 (tableOf text held) → ⊥) → SaysAnswer 20 (tableOf text held) ↔ NoModel vars (withHeld (clauses es) held)
-  table-no-model = tables.table-no-model d h
-
 -- ---- why a literal is forced
 
 module _ (q : Question) (some : 1 ≤ varOf (q .literal)) where
@@ -671,19 +537,6 @@ why-refused = refused-reasons.why-refused
 pub why-accepted : (g : WhyGiven) → (whyRefusal g ≡ none) ↔ WhyAccepted g
 why-accepted = refused-reasons.why-accepted
 
--- What is printed is never longer than maxWhy, and no second result meets its contract.
-pub why-text-bound : (text : List ℕ) (l : ℤ) → length (whyTextOf text l) ≤ maxWhy
-why-text-bound = reason-text.length-whyTextOf
-
-pub prints-why-unique : {text : List ℕ} {l : ℤ} {before : List ℕ} {n n′ : ℕ} {b b′ : List ℕ}
-    → PrintsWhy text l before n b → PrintsWhy text l before n′ b′ → (n ≡ n′) × (b ≡ b′)
-prints-why-unique = reason-text.prints-why-unique
-
--- Of an accepted text nothing is refused but the literal.
-pub why-only-literal : {text : List ℕ} {vars n : ℕ} {es : List ℤ} → Dimacs text vars n es → (l : ℤ) (a : Refusal)
-    → WhyRefuses (whyAsked vars es l) a → a ≡ Refusal.BadLiteral 0
-why-only-literal = reason-text.why-only-literal
-
 -- ---- which clause holds a switch
 
 -- In the first model of a run a hint is 0 exactly if the variable, flipped alone, leaves all clauses true,
@@ -712,10 +565,6 @@ forced-held = hints.forced-held
 -- Why: small formulas, with marks, values, calls and tries.
 pub why-cases : all reason-cases.passes reason-cases.cases ≡ true
 why-cases = reason-cases.why-cases
-
--- An answer of each kind, as it is printed.
-pub why-shown : all reason-text.passes reason-text.answers ≡ true
-why-shown = reason-text.why-shown
 
 -- The small formulas that the rules mark, whole.
 pub starred : all run-cases.passes run-cases.cases ≡ true
@@ -749,36 +598,7 @@ setup-cases = setup-runs.setup-cases
 pub close-cases : all closing-cases.passes closing-cases.closeCases ≡ true
 close-cases = closing-cases.close-cases
 
--- The small texts, with number and place.
-pub small-texts : all reading.passes reading.smallTexts ≡ true
-small-texts = reading.small-texts
-
--- The last size that passes and the first one that is refused, with number and place: texts, and lists and limits of a run.
-pub text-edges : all edges.textPasses edges.textEdges ≡ true
-text-edges = edges.text-edges
-
-pub run-edges : all edges.runPasses edges.runEdges ≡ true
-run-edges = edges.run-edges
-
--- Printed tables with each word that a table may have.
-pub shown : all printed.passes printed.tables ≡ true
-shown = printed.shown
-
--- Printed witnesses, and a line for each kind of refusal.
-pub shown-witnesses : all witness-text.passes witness-text.answers ≡ true
-shown-witnesses = witness-text.shown-witnesses
-
 -- ---- no second result
-
--- One number and one buffer satisfy the printed witness's contract.
-pub prints-witness-unique : {text : List ℕ} {v : ℕ} {before : List ℕ} {n n′ : ℕ} {b b′ : List ℕ}
-    → PrintsWitness text v before n b → PrintsWitness text v before n′ b′ → (n ≡ n′) × (b ≡ b′)
-prints-witness-unique = witness-text.prints-witness-unique
-
--- One result and one buffer satisfy the reader's contract.
-pub reads-unique : {text : List ℕ} {before : List ℤ} {r r′ : Reading} {b b′ : List ℤ}
-    → Reads text before r b → Reads text before r′ b′ → (r ≡ r′) × (b ≡ b′)
-reads-unique = reading.reads-unique
 
 -- One result and one content of each buffer satisfy the run's contract.
 pub runs-unique : {g : Given} {r r′ : Report} {b b′ : Buffers} → Runs g r b → Runs g r′ b′ → (r ≡ r′) × (b ≡ b′)
@@ -798,11 +618,6 @@ closes-exists = closings.closes-exists
 
 pub closes-unique : {g : CloseGiven} {r r′ : CloseReport} {b b′ : List ℕ} → Closes g r b → Closes g r′ b′ → (r ≡ r′) × (b ≡ b′)
 closes-unique = closings.closes-unique
-
--- One number and one buffer satisfy the printed table's contract.
-pub prints-unique : {text : List ℕ} {held : List ℤ} {before : List ℕ} {n n′ : ℕ} {b b′ : List ℕ}
-    → Prints text held before n b → Prints text held before n′ b′ → (n ≡ n′) × (b ≡ b′)
-prints-unique = printed.prints-unique
 
 -- One result and two buffers satisfy the contract of why.
 pub explains-unique : {g : WhyGiven} {r r′ : WhyReport} {s s′ v v′ : List ℕ}

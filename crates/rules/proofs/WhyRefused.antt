@@ -16,7 +16,7 @@ use mathlib.Core.Option.{Option, none, some}
 use Prim.Native.Nat.{ℕ, _≤_, _<_}
 use native.Mathlib.Omega.{arith}
 use lib.Dec.{eqb, ltb}
-use lib.ListN.{length, drop, length-replicate}
+use lib.ListN.{length, drop}
 use borrow.Author.Tests.{eqb-true, eqb-false, eq-eqb, ne-eqb, ltb-true, ltb-false, lt-ltb, le-ltb}
 use Rattle.rules.specs.declared.Refusal.{Refusal}
 use Rattle.rules.specs.declared.WhyAnswer.{WhyAnswer}
@@ -24,14 +24,14 @@ use Rattle.rules.specs.declared.WhyReport.{WhyReport}
 use Rattle.rules.specs.Lists.{Check, firstOf, orNext}
 use Rattle.rules.specs.Numbers.{maxVars, maxClauses}
 use Rattle.rules.specs.Meaning.{varOf, LitUpTo}
-use Rattle.rules.specs.Answer.{logLength, listRules, refusalOf}
+use Rattle.rules.specs.Answer.{listRules, refusalOf}
 use Rattle.rules.specs.RunRefusals.{Lent, Accepted}
 use Rattle.rules.specs.Held.{isNoLiteral}
 use Rattle.rules.specs.Why.{whyShort, literalRules, whyRefusal}
 use Rattle.rules.specs.Why.{why, WhyGiven, questionOf, whyReportOf, marksAfter, whyValuesAfter, Explains}
 use Rattle.rules.specs.Why.{WhyLent, listOnly, WhyAccepted, WhyRefuses, many-vars, short-buffer, bad-list, bad-literal}
 use Rattle.rules.proofs.ListLaws.{apart, or-cases, or-left, or-right}
-use Rattle.rules.proofs.AnswerLaws.{refusal-lent}
+use Rattle.rules.proofs.AnswerLaws.{lent-alone, refusal-lent}
 use Rattle.rules.proofs.RefusedRuns.{run-refused, run-accepted}
 
 -- ---- the tests, one by one
@@ -95,15 +95,7 @@ module _ (g : WhyGiven) where
   -- ---- the list's own refusal is that of a run for which nothing else is wrong
 
   pub list-lent : WhyLent g → Lent (listOnly g)
-  list-lent w =
-      record {
-        in-limits = record { vars-fit = w .vars-fit; limit-some = omega arith; limit-fits = omega arith };
-        status-fits = omega (arith, length-replicate {A = ℕ} (g .vars) 0);
-        calls-fit = omega (arith, length-replicate {A = ℕ} (g .vars) 0);
-        ways-fit = omega (arith, length-replicate {A = ℕ} (g .vars) 0);
-        hints-fit = omega (arith, length-replicate {A = ℕ} (g .vars) 0);
-        log-fits = omega (arith, length-replicate {A = ℕ} (logLength (g .vars)) 0);
-      }
+  list-lent w = lent-alone (g .entries) (g .vars) (w .vars-fit)
 
   list-refusal : WhyLent g → firstOf (listRules (g .entries) (g .vars)) ≡ refusalOf (listOnly g)
   list-refusal w = sym (refusal-lent (listOnly g) (list-lent w))

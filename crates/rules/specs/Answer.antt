@@ -11,10 +11,9 @@ use lib.ListN.{length, drop, replicate}
 use Rattle.rules.specs.declared.Refusal.{Refusal}
 use Rattle.rules.specs.declared.RunAnswer.{RunAnswer}
 use Rattle.rules.specs.declared.Report.{Report}
-use Rattle.rules.specs.Lists.{any, count, joined, nthIndex, Check, check, firstOf}
+use Rattle.rules.specs.Lists.{any, count, joined, nthIndex, Check, check, firstOf, isZero}
 use Rattle.rules.specs.Numbers.{maxVars, maxClauses, maxEntries, maxChunk, outcomeNumber}
 use Rattle.rules.specs.Meaning.{varOf, clauses}
-use Rattle.rules.specs.Reading.{isZero}
 use Rattle.rules.specs.Records.{callsOf, waysOf}
 use Rattle.rules.specs.Run.{Task, Row, Ended, run}
 use Rattle.rules.specs.Hints.{hintsOf}

@@ -1,10 +1,5 @@
 pub mod Lists
 pub mod Numbers
-pub mod Text
-pub mod Reading
-pub mod Grammar
-pub mod Refusals
-pub mod Plain
 pub mod Meaning
 pub mod Closing
 pub mod Rounds
@@ -23,11 +18,6 @@ pub mod Recorded
 pub mod Models
 pub mod Order
 pub mod Witness
-pub mod Printed
-pub mod Tables
 pub mod Setup
 pub mod Close
 pub mod Why
-pub mod ModelLine
-pub mod WhyPrinted
-pub mod WitnessPrinted

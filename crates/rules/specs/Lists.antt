@@ -104,6 +104,9 @@ eqz (pos m) (negsuc n) = false
 eqz (negsuc m) (pos n) = false
 eqz (negsuc m) (negsuc n) = eqb m n
 
+abbrev pub isZero : ℤ → Bool
+isZero l = eqz l (pos 0)
+
 -- two lists of numbers are the same
 abbrev pub eqs : List ℕ → List ℕ → Bool
 eqs [] [] = true

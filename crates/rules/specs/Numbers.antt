@@ -1,5 +1,7 @@
 -- docs/RULES.md, "Sizes", and the numbers and places of "What comes back", for each answer. Assumes nothing.
 use Prim.Native.Nat.{ℕ}
+use Rattle.rules.specs.declared.ClaimsAnswer.{ClaimsAnswer}
+use Rattle.rules.specs.declared.GroupsAnswer.{GroupsAnswer}
 use Rattle.rules.specs.declared.Outcome.{Outcome}
 use Rattle.rules.specs.declared.ReadAnswer.{ReadAnswer}
 use Rattle.rules.specs.declared.Refusal.{Refusal}
@@ -84,7 +86,7 @@ refusalPlace (Refusal.BadLiteral at) = at
 refusalPlace Refusal.NotFree = 0
 refusalPlace Refusal.ManyHeld = maxHeld
 
--- and for a run
+-- for a run
 abbrev pub runNumber : RunAnswer → ℕ
 runNumber RunAnswer.Settled = 0
 runNumber RunAnswer.NoModel = 20
@@ -96,3 +98,43 @@ runPlace RunAnswer.Settled = 0
 runPlace RunAnswer.NoModel = 0
 runPlace RunAnswer.Stopped = 0
 runPlace (RunAnswer.Refused r) = refusalPlace r
+
+-- for a file of groups
+abbrev pub groupsNumber : GroupsAnswer → ℕ
+groupsNumber GroupsAnswer.Accepted = 0
+groupsNumber GroupsAnswer.ShortBuffer = 1
+groupsNumber GroupsAnswer.LongText = 2
+groupsNumber (GroupsAnswer.OverSizes at) = 4
+groupsNumber (GroupsAnswer.BadToken at) = 5
+groupsNumber (GroupsAnswer.TokenBehind at) = 6
+groupsNumber (GroupsAnswer.TokenOverVars at) = 7
+groupsNumber (GroupsAnswer.ShortText at) = 9
+groupsNumber GroupsAnswer.LongList = 11
+groupsNumber (GroupsAnswer.BadGroup at) = 16
+
+abbrev pub groupsPlace : GroupsAnswer → ℕ
+groupsPlace GroupsAnswer.Accepted = 0
+groupsPlace GroupsAnswer.ShortBuffer = 0
+groupsPlace GroupsAnswer.LongText = maxText
+groupsPlace (GroupsAnswer.OverSizes at) = at
+groupsPlace (GroupsAnswer.BadToken at) = at
+groupsPlace (GroupsAnswer.TokenBehind at) = at
+groupsPlace (GroupsAnswer.TokenOverVars at) = at
+groupsPlace (GroupsAnswer.ShortText at) = at
+groupsPlace GroupsAnswer.LongList = 0
+groupsPlace (GroupsAnswer.BadGroup at) = at
+
+-- and for a file of claims
+abbrev pub claimsNumber : ClaimsAnswer → ℕ
+claimsNumber (ClaimsAnswer.Accepted n) = 0
+claimsNumber ClaimsAnswer.LongText = 2
+claimsNumber (ClaimsAnswer.BadToken at) = 5
+claimsNumber (ClaimsAnswer.Rejected at) = 17
+claimsNumber (ClaimsAnswer.Refused a) = refusalNumber a
+
+abbrev pub claimsPlace : ClaimsAnswer → ℕ
+claimsPlace (ClaimsAnswer.Accepted n) = 0
+claimsPlace ClaimsAnswer.LongText = maxText
+claimsPlace (ClaimsAnswer.BadToken at) = at
+claimsPlace (ClaimsAnswer.Rejected at) = at
+claimsPlace (ClaimsAnswer.Refused a) = refusalPlace a

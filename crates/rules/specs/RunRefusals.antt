@@ -4,16 +4,15 @@ use mathlib.Core.Path.{_≡_}
 use mathlib.Core.Logic.{_⊎_}
 use mathlib.Core.Bool.{true, false}
 use mathlib.Core.List.{List, [], _∷_, _++_}
-use Prim.Native.Nat.{_≤_, _<_}
+use Prim.Native.Nat.{ℕ, _≤_, _<_}
 use lib.IntN.{ℤ, pos}
-use lib.ListN.{length}
+use lib.ListN.{length, replicate}
 use Rattle.rules.specs.declared.Refusal.{Refusal}
-use Rattle.rules.specs.Lists.{In, count}
+use Rattle.rules.specs.Lists.{In, count, isZero}
 use Rattle.rules.specs.Numbers.{maxVars, maxClauses, maxEntries, maxChunk, maxHeld}
 use Rattle.rules.specs.Meaning.{varOf, LitUpTo}
-use Rattle.rules.specs.Reading.{isZero}
 use Rattle.rules.specs.Held.{Holdable}
-use Rattle.rules.specs.Answer.{Given, logLength, isEnded}
+use Rattle.rules.specs.Answer.{Given, given, buffers, logLength, isEnded}
 
 -- not 10
 pub record InLimits (g : Given) : Type 0 where
@@ -74,3 +73,9 @@ pub data RunRefuses (g : Given) : Refusal → Type 0 where
   -- 13: the first held literal that is 0 or above V
   bad-literal : Formed g → length (g .held) ≤ maxHeld → (front : List ℤ) (l : ℤ) (back : List ℤ) → g .held ≡ front ++ l ∷ back
       → ((k : ℤ) → In k front → LitUpTo (g .vars) k) → (varOf l ≡ 0) ⊎ (g .vars < varOf l) → RunRefuses g (Refusal.BadLiteral (length front))
+
+-- a run of a list for which nothing else is wrong: what it is refused for is the list's own
+abbrev pub listAlone : List ℤ → ℕ → Given
+listAlone es vars =
+    given es vars [] 0 1
+    (buffers (replicate vars 0) (replicate vars 0) (replicate vars 0) (replicate vars 0) (replicate (logLength vars) 0))

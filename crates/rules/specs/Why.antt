@@ -18,8 +18,8 @@ use Rattle.rules.specs.Meaning.{Clause, Values, varOf, negated, clauses,
 use Rattle.rules.specs.Search.{Call, model, no-model, stopped, callOn}
 use Rattle.rules.specs.Run.{blank}
 use Rattle.rules.specs.Held.{isNoLiteral}
-use Rattle.rules.specs.Answer.{Given, given, buffers, logLength, takingRules}
-use Rattle.rules.specs.RunRefusals.{Accepted, RunRefuses}
+use Rattle.rules.specs.Answer.{Given, takingRules}
+use Rattle.rules.specs.RunRefusals.{Accepted, RunRefuses, listAlone}
 
 -- ---- numbers and places of the answers
 
@@ -184,11 +184,9 @@ pub record WhyLent (g : WhyGiven) : Type 0 where
   pub marks-fit : maxClauses ≤ length (g .marks)
   pub values-fit : g .vars ≤ length (g .values)
 
--- a run of the list for which nothing else is wrong: what it is refused for is the list's own
+-- a run of the list alone
 abbrev pub listOnly : WhyGiven → Given
-listOnly g =
-    given (g .entries) (g .vars) [] 0 1
-    (buffers (blank (g .vars)) (blank (g .vars)) (blank (g .vars)) (blank (g .vars)) (replicate (logLength (g .vars)) 0))
+listOnly g = listAlone (g .entries) (g .vars)
 
 -- nothing is wrong
 pub record WhyAccepted (g : WhyGiven) : Type 0 where

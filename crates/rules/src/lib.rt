@@ -24,6 +24,9 @@ pub const MAX_CHUNK: u32 = 256;
 
 pub const MAX_HELD: usize = 256;
 
+// "Groups": how many there may be.
+pub const MAX_GROUPS: usize = 128;
+
 // "Choices already made": an entry list with the held literals behind it, and where its clauses start, with one more for the end.
 pub const MAX_LIST: usize = MAX_ENTRIES + 2 * MAX_HELD;
 
@@ -49,6 +52,12 @@ pub const MAX_WHY: usize = 32768;
 
 // "The printed witness": its budget and chunk limit are those of the table. No two lines are longer.
 pub const MAX_WITNESS: usize = 4096;
+
+// "The printed groups": its budget and chunk limit are those of the table. No table of groups is longer.
+pub const MAX_GROUPS_TABLE: usize = 4096;
+
+// "The printed verdict": no line is longer.
+pub const MAX_CLAIMS_LINE: usize = 64;
 
 // What a clause is under some values ("Closing").
 pub enum ClauseState {
@@ -107,6 +116,29 @@ pub enum ReadAnswer {
 // What a reading returns.
 pub struct Reading {
     pub answer: ReadAnswer,
+    pub vars: u32,
+    pub clauses: u32,
+    pub entries: usize,
+}
+
+// The answer of a reading of groups, with its place where that is not fixed. Its number and place are groupsNumber and groupsPlace.
+pub enum GroupsAnswer {
+    Accepted,
+    ShortBuffer,
+    LongText,
+    OverSizes(usize),
+    BadToken(usize),
+    TokenBehind(usize),
+    TokenOverVars(usize),
+    ShortText(usize),
+    LongList,
+    BadGroup(usize),
+}
+
+// What a reading of groups returns: variables, clauses and entries are those of the expanded list.
+pub struct GroupsReading {
+    pub answer: GroupsAnswer,
+    pub groups: u32,
     pub vars: u32,
     pub clauses: u32,
     pub entries: usize,
@@ -173,4 +205,21 @@ pub struct CloseReport {
     pub answer: CloseAnswer,
     pub rounds: u32,
     pub set: u32,
+}
+
+// What the shorter file returns: the run's numbers, and how many bytes of it are written.
+pub struct ShorterReport {
+    pub run: Report,
+    pub length: usize,
+}
+
+// The answer to a file of claims. Its number and place are claimsNumber and claimsPlace.
+pub enum ClaimsAnswer {
+    // The model is one, and so many claims hold.
+    Accepted(u32),
+    LongText,
+    BadToken(usize),
+    // The place of the first number at fault.
+    Rejected(usize),
+    Refused(Refusal),
 }

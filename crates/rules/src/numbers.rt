@@ -1,6 +1,7 @@
 // The numbers and places of docs/RULES.md, "What comes back", for each answer.
 ghost use mathlib.Core.Path.{_≡_};
-ghost use Rattle.rules.specs.Numbers.{outcomeNumber, wayNumber, readNumber, readPlace, refusalNumber, refusalPlace, runNumber, runPlace};
+ghost use Rattle.rules.specs.Numbers.{outcomeNumber, wayNumber, readNumber, readPlace, refusalNumber, refusalPlace};
+ghost use Rattle.rules.specs.Numbers.{runNumber, runPlace, groupsNumber, groupsPlace, claimsNumber, claimsPlace};
 ghost use Rattle.rules.specs.Why.{whyNumber, whyPlace};
 ghost use Rattle.rules.specs.Close.{closeNumber, closePlace};
 
@@ -174,5 +175,71 @@ pub fn close_place(answer: crate::CloseAnswer) -> usize
         crate::CloseAnswer::Closed => 0,
         crate::CloseAnswer::Clash => 0,
         crate::CloseAnswer::Refused(refusal) => refusal_place(refusal),
+    }
+}
+
+// The number of the answer of a reading of groups.
+// Rules out: 3 for a size of 1; 4 for a list over 1,024 clauses.
+pub fn groups_number(answer: crate::GroupsAnswer) -> u32
+    ensures { λ r. ⌜ r ≡ groupsNumber answer ⌝ }
+{
+    match answer {
+        crate::GroupsAnswer::Accepted => 0,
+        crate::GroupsAnswer::ShortBuffer => 1,
+        crate::GroupsAnswer::LongText => 2,
+        crate::GroupsAnswer::OverSizes(_) => 4,
+        crate::GroupsAnswer::BadToken(_) => 5,
+        crate::GroupsAnswer::TokenBehind(_) => 6,
+        crate::GroupsAnswer::TokenOverVars(_) => 7,
+        crate::GroupsAnswer::ShortText(_) => 9,
+        crate::GroupsAnswer::LongList => 11,
+        crate::GroupsAnswer::BadGroup(_) => 16,
+    }
+}
+
+// Its place.
+// Rules out: 0 for a size of 1 at 2; the length of a text over 32,768 bytes.
+pub fn groups_place(answer: crate::GroupsAnswer) -> usize
+    ensures { λ r. ⌜ r ≡ groupsPlace answer ⌝ }
+{
+    match answer {
+        crate::GroupsAnswer::Accepted => 0,
+        crate::GroupsAnswer::ShortBuffer => 0,
+        crate::GroupsAnswer::LongText => crate::MAX_TEXT,
+        crate::GroupsAnswer::OverSizes(at) => at,
+        crate::GroupsAnswer::BadToken(at) => at,
+        crate::GroupsAnswer::TokenBehind(at) => at,
+        crate::GroupsAnswer::TokenOverVars(at) => at,
+        crate::GroupsAnswer::ShortText(at) => at,
+        crate::GroupsAnswer::LongList => 0,
+        crate::GroupsAnswer::BadGroup(at) => at,
+    }
+}
+
+// The number of the answer to a file of claims.
+// Rules out: 0 for a number at fault; 17 for a malformed token.
+pub fn claims_number(answer: crate::ClaimsAnswer) -> u32
+    ensures { λ r. ⌜ r ≡ claimsNumber answer ⌝ }
+{
+    match answer {
+        crate::ClaimsAnswer::Accepted(_) => 0,
+        crate::ClaimsAnswer::LongText => 2,
+        crate::ClaimsAnswer::BadToken(_) => 5,
+        crate::ClaimsAnswer::Rejected(_) => 17,
+        crate::ClaimsAnswer::Refused(refusal) => refusal_number(refusal),
+    }
+}
+
+// Its place.
+// Rules out: the number of claims for an accepted file; the length of a text over 32,768 bytes.
+pub fn claims_place(answer: crate::ClaimsAnswer) -> usize
+    ensures { λ r. ⌜ r ≡ claimsPlace answer ⌝ }
+{
+    match answer {
+        crate::ClaimsAnswer::Accepted(_) => 0,
+        crate::ClaimsAnswer::LongText => crate::MAX_TEXT,
+        crate::ClaimsAnswer::BadToken(at) => at,
+        crate::ClaimsAnswer::Rejected(at) => at,
+        crate::ClaimsAnswer::Refused(refusal) => refusal_place(refusal),
     }
 }

@@ -1,25 +1,23 @@
 -- A call as `go_on` and `try_value` make it: which of its ways is taken, what it then ends with, and the values that are taken back.
 --
---   saved-back                    of a saved copy, as many bytes as there are values are the values
 --   Chosen, chosen, choice-none   the variable that was chosen is the lowest unset one; or there is none
 --   not-no-model, not-model       an outcome by the tag of the arm that is left
---   copied-back, ends-taken-back  taking back
+--   ends-taken-back               taking back
 --   ends-clash, ends-model, ends-first, ends-second     a call by what closing ends with and by the choice, and what it ends with
---   ends-stopped, ends-set, ends-unset     a try by what the meter gives, and what it ends with
---   falls-closing, falls-set      the number of unset variables falls
+--   ends-stopped, ends-back       a try by what the meter gives, and what it ends with
+--   falls-set                     the number of unset variables falls
 --
 -- Assumes nothing.
 use mathlib.Core.Path.{_≡_, refl, _∙_, ap}
 use mathlib.Core.Logic.{_≢_, ⊎-elim}
 use mathlib.Core.Bool.{Bool, true, false}
-use mathlib.Core.List.{List, [], _∷_, _++_, append-nil}
+use mathlib.Core.List.{List, [], _∷_}
 use mathlib.Core.Option.{Option, none, some}
-use Prim.Native.Nat.{ℕ, zero, suc, pred, _+_, _<_, _≤_}
+use Prim.Native.Nat.{ℕ, zero, suc, pred, _+_, _<_}
 use native.Mathlib.Omega.{arith}
 use native.Mathlib.Numerals.{add-one}
 use lib.Dec.{ltb}
-use lib.ListN.{set, length, take, drop}
-use lib.Seq.{take-length, drop-length, take-append-seam, set-set, set-getD}
+use lib.ListN.{set, length}
 use types.Run.{OneOf}
 use denote.Enum.Declared.{tagOf, declared}
 use Rattle.rules.proofs.Outcome as outcome
@@ -30,8 +28,7 @@ use Rattle.rules.specs.Meaning.{Clause, Values, valueAt}
 use Rattle.rules.specs.Closing.{Closed, clash, closed, closing, unsets}
 use Rattle.rules.specs.Search.{Call, model, no-model, stopped, outcomeOf, lowestUnset, ifLeft, try, orElse, choose, onClosed, callOn}
 use Rattle.rules.proofs.ListLaws.{apart}
-use Rattle.rules.proofs.MeaningLaws.{unsets-set}
-use Rattle.rules.proofs.ClosingLaws.{Settled, closing-ends}
+use Rattle.rules.proofs.MeaningLaws.{unset-within, unsets-set}
 use Rattle.rules.proofs.CallLaws.{Lowest, lowestUnset-sound, callOn-next}
 use Rattle.formula.specs.Literals.{byteOf}
 use Rattle.search.specs.declared.values.Choice.the-variants.{AllSet, Unset}
@@ -43,22 +40,12 @@ use Rattle.search.specs.Meters.{askedIf, askedOf}
 use Rattle.search.specs.Calls.{valuesAfter, CallEnds, unlessModel}
 use Rattle.search.proofs.EndLaws.{undone, none-not-model, was-none}
 
--- ---- a saved copy
-
-pub saved-back : (vs us rest saved : List ℕ) → saved ≡ take (length vs) vs ++ rest → length us ≡ length vs → take (length us) saved ≡ vs
-saved-back vs us rest saved e h = rw (h, e, take-length vs) (take-append-seam vs rest)
-
 -- ---- the choice
 
 pub record Chosen (vs : Values) (v : ℕ) : Type 0 where
   pub variable : VarUpTo (length vs) v
   pub unset : valueAt vs (pred v) ≡ 0
   pub lowest : lowestUnset vs ≡ some (pred v)
-
-unset-within : (vs : Values) (i : ℕ) → valueAt vs i ≡ 0 → i < length vs
-unset-within [] i e = absurd (omega arith)
-unset-within (b ∷ vs) zero e = omega arith
-unset-within (b ∷ vs) (suc i) e = omega (arith, unset-within vs i e)
 
 pub chosen : (vs : Values) (v : Var) → choiceOf (lowestUnset vs) ≡ Unset v → Chosen vs (v .0)
 unfolding Lowest
@@ -99,7 +86,7 @@ not-model Stopped q e = apart cc
 
 -- ---- taking back
 
-pub ends-taken-back : {c : Call} {ws : Values} {b : ℕ} {r : CallEnd} {us : Values} (vs after : Values) → CallEnds c ws b r us
+ends-taken-back : {c : Call} {ws : Values} {b : ℕ} {r : CallEnd} {us : Values} (vs after : Values) → CallEnds c ws b r us
     → after ≡ unlessModel (r .outcome) us vs → CallEnds c vs b r after
 ends-taken-back {c} {ws} {us} vs after w a =
     record {
@@ -114,19 +101,10 @@ ends-taken-back {c} {ws} {us} vs after w a =
     go (no-model u) v = refl
     go (stopped u) v = refl
 
-pub copied-back : (o : Outcome) (vs saved : Values) → o ≢ Model
-    → take (length vs) saved ++ drop (length vs) vs ≡ unlessModel o vs (take (length vs) saved)
-copied-back o vs saved h = rw (drop-length vs, append-nil (take (length vs) saved)) (go o h)
-  where
-    go : (o : Outcome) → o ≢ Model → take (length vs) saved ≡ unlessModel o vs (take (length vs) saved)
-    go Model h = absurd (h refl)
-    go NoModel h = refl
-    go Stopped h = refl
-
 -- ---- going on
 
 -- the result of a call that ends without a try
-abbrev ended : Outcome → Meter → CallEnd
+abbrev pub ended : Outcome → Meter → CallEnd
 ended o m = record { outcome = o; meter = m }
 
 module _ (m : Meter) (F : List Clause) (vs : Values) where
@@ -175,9 +153,6 @@ module _ (m : Meter) (F : List Clause) (vs : Values) where
         → after ≡ unlessModel (second .outcome) ds vs → CallEnds call vs (m .budget) second after
     ends-second h second ds after w2 a = rw (call-second h) (ends-taken-back vs after (rw (undone w (none-not-model h), w .budget-is) at w2) a)
 
-  pub falls-closing : (ws : Values) → closing F vs ≡ closed ws → unsets ws ≤ unsets vs
-  falls-closing ws e = let s : Settled F vs ws = rw e at (closing-ends F vs) in s .fewer
-
 -- ---- trying
 
 pub falls-set : (vs : Values) (i : ℕ) (x : Bool) → valueAt vs i ≡ 0 → unsets (set vs i (byteOf x)) < unsets vs
@@ -208,16 +183,6 @@ module _ (m : Meter) (F : List Clause) (vs : Values) (i x : ℕ) where
             rw (← add-one (m .spent), q, p) w
         go false e = apart cc
 
-    pub ends-set : r .outcome ≡ Model → CallEnds trying vs (m .budget) r us
-    ends-set h = ends-taken-back vs us paid (rw h)
-
-    pub ends-unset : r .outcome ≢ Model → valueAt vs i ≡ 0 → (after : Values) → after ≡ set us i 0 → CallEnds trying vs (m .budget) r after
-    ends-unset h z after a = ends-taken-back vs after paid (a ∙ go (r .outcome) h)
-      where
-        back : us ≡ set vs i x → set us i 0 ≡ vs
-        back u = rw (u, set-set vs i x 0, ← z) (set-getD vs i 1)
-
-        go : (o : Outcome) → o ≢ Model → set us i 0 ≡ unlessModel o us vs
-        go Model h = absurd (h refl)
-        go NoModel k = back (undone paid h)
-        go Stopped k = back (undone paid h)
+    -- unless there is a model the values are taken back
+    pub ends-back : (after : Values) → after ≡ unlessModel (r .outcome) us vs → CallEnds trying vs (m .budget) r after
+    ends-back after a = ends-taken-back vs after paid a

@@ -1,6 +1,8 @@
 -- Laws that belong to no one function.
 pub mod ValueLaws
-pub mod RoundLaws
-pub mod CloseLaws
 pub mod EndLaws
 pub mod CallLaws
+pub mod BoardLaws
+pub mod OnBoardLaws
+pub mod WholeLaws
+pub mod RoomLaws

@@ -1,37 +1,23 @@
--- The laws of lent values: the index of a variable, a copy byte by byte, and the search for the lowest unset variable as an
--- invariant.
+-- The search for the lowest unset variable as an invariant.
 --
---   pred-of-add-one               the index that the code computes
---   assign-of-set                 a literal made true by its variable and its sign
---   Passed, passed-start, passed-step, passed-unset, passed-done     no variable below i is unset
+--   Passed, passed-step, passed-unset, passed-done     no variable below i is unset
+--   passed-from                   from an index below which all are set
 --
 -- Assumes nothing.
 use mathlib.Core.Path.{_≡_, refl, sym, _∙_, ap}
 use mathlib.Core.Logic.{_≢_}
 use mathlib.Core.List.{_∷_}
 use mathlib.Core.Option.{Option, none, some}
-use Prim.Native.Nat.{ℕ, zero, suc, pred, _+_, _<_, _≤_}
+use Prim.Native.Nat.{ℕ, zero, suc, _+_, _<_, _≤_}
 use native.Mathlib.Omega.{arith}
 use native.Mathlib.Numerals.{add-one}
 use native.Mathlib.Nat.{zero-add, add-zero}
-use lib.IntN.{ℤ}
-use lib.ListN.{getD, set, length, drop, drop-of-length-le}
+use lib.ListN.{getD, length, drop, drop-of-length-le}
 use lib.Seq.{drop-cons}
-use Rattle.rules.specs.Meaning.{Values, varOf, assign}
+use Rattle.rules.specs.Meaning.{Values, valueAt}
 use Rattle.rules.specs.Search.{next, lowestUnset}
-use Rattle.formula.specs.Literals.{isPositive, byteOf}
-use Rattle.formula.proofs.LiteralLaws.{assign-set}
-
-pub pred-of-add-one : (i v : ℕ) → i + 1 ≡ v → i ≡ pred v
-pred-of-add-one i zero e = absurd (omega arith)
-pred-of-add-one i (suc v) e = omega arith
-
-pub assign-of-set : (vs : Values) (l : ℤ) → 1 ≤ varOf l → set vs (pred (varOf l)) (byteOf (isPositive l)) ≡ assign vs l
-assign-of-set vs l h = assign-set vs l (pred (varOf l)) (go (varOf l) h)
-  where
-    go : (v : ℕ) → 1 ≤ v → pred v + 1 ≡ v
-    go zero h = absurd (omega arith)
-    go (suc v) h = omega arith
+use Rattle.rules.proofs.ListLaws.{getD-default}
+use Rattle.search.specs.Boards.{SetBelow}
 
 -- ---- the lowest unset variable
 
@@ -49,7 +35,7 @@ pub record Passed (vs : Values) (i : ℕ) : Type 0 where
   pub within : i ≤ length vs
   pub lowest : shifted i (lowestUnset (drop i vs)) ≡ lowestUnset vs
 
-pub passed-start : (vs : Values) → Passed vs 0
+passed-start : (vs : Values) → Passed vs 0
 passed-start vs = record { within = omega arith; lowest = go (lowestUnset vs) }
   where
     go : (o : Option ℕ) → shifted 0 o ≡ o
@@ -72,3 +58,16 @@ module _ (vs : Values) (i : ℕ) (h : i < length vs) (p : Passed vs i) where
 
 pub passed-done : (vs : Values) (i : ℕ) → length vs ≤ i → Passed vs i → lowestUnset vs ≡ none
 passed-done vs i h p = sym (rw (drop-of-length-le vs h) at (p .lowest))
+
+-- ---- from an index below which all are set
+
+pub passed-from : {from : ℕ} {vs : Values} → SetBelow from vs → Passed vs from
+passed-from {from} {vs} b = go from (b .within) (b .set)
+  where
+    go : (n : ℕ) → n ≤ length vs → ((i : ℕ) → i < n → valueAt vs i ≢ 0) → Passed vs n
+    go zero h s = passed-start vs
+    go (suc n) h s =
+        let e : n + 1 ≡ suc n = omega arith in
+        rw e at
+        (passed-step vs n (omega arith) (go n (omega arith) (λ i l. s i (omega arith)))
+        (λ z. s n (omega arith) (sym (getD-default vs n 0 1 (omega arith)) ∙ z)))

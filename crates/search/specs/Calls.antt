@@ -2,26 +2,26 @@
 use mathlib.Core.Path.{_≡_}
 use mathlib.Core.Bool.{Bool}
 use mathlib.Core.List.{List}
-use Prim.Native.Nat.{ℕ, pred}
+use Prim.Native.Nat.{ℕ, suc, pred, _≤_}
 use lib.IntN.{ℤ}
 use lib.ListN.{length}
 use Rattle.rules.specs.declared.Outcome.{Outcome}
-use Rattle.rules.specs.Meaning.{Clause, Values, valueAt}
+use Rattle.rules.specs.Meaning.{Clause, Values, clauses}
 use Rattle.rules.specs.Search.{Call, model, no-model, stopped, outcomeOf, triesOf, try, callOn}
 use Rattle.formula.specs.Starts.{callClauses}
 use Rattle.formula.specs.Literals.{byteOf}
+use Rattle.formula.specs.Clauses.{ClauseUpTo}
+use Rattle.formula.specs.Formula.{Formula}
 use Rattle.search.specs.declared.meter.Meter.{Meter}
 use Rattle.search.specs.declared.call.CallEnd.{CallEnd}
-use Rattle.search.specs.Choices.{VarUpTo}
-use Rattle.search.specs.Closings.{CallOver}
 
 -- ---- what is required
 
--- for a try, beside what a call requires, a variable that is unset
-pub record TryOver (vs : Values) (es : List ℤ) (starts : List ℕ) (con : Clause) (total v : ℕ) : Type 0 where
-  pub call : CallOver (length vs) es starts con total
-  pub variable : VarUpTo (length vs) v
-  pub unset : valueAt vs (pred v) ≡ 0
+-- a formula, and a constraint over its variables; a call has no more clauses than there are with the constraint
+pub record CallOver (vars : ℕ) (es : List ℤ) (starts : List ℕ) (con : Clause) (total : ℕ) : Type 0 where
+  pub formula : Formula vars es starts
+  pub constraint-up-to : ClauseUpTo vars con
+  pub total-most : total ≤ suc (length (clauses es))
 
 -- ---- what is promised
 

@@ -1,5 +1,7 @@
 -- The definitions that the contracts cite, beside those of `rules` and `formula`.
 pub mod Choices
 pub mod Meters
-pub mod Closings
 pub mod Calls
+pub mod Boards
+pub mod Rooms
+pub mod Wholes

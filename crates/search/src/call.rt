@@ -1,22 +1,26 @@
-// A call, docs/RULES.md, "Search": going on chooses a variable and calls try, trying sets it and calls go_on. The number of unset
-// variables falls. The values are lent: a call leaves its model there, or else what it found when it came.
-use crate::close::Closing;
-use crate::close::close;
+// A call, docs/RULES.md, "Search": going on chooses a variable and calls try, trying sets it and calls go_on. The
+// number of unset variables falls. Nothing is saved: what was set since stands on the trail, and is taken back unless there is a model.
+// The two values of a variable are tried by one call of try in a loop, so that a level takes one frame of the stack.
 use crate::meter::Asked;
 use crate::meter::Meter;
 use crate::meter::ask_try;
+use crate::room::MAX_BLOCKS;
+use crate::room::MAX_CODES;
+use crate::room::MAX_PARTS;
+use crate::room::MAX_TRAIL;
+use crate::room::choice_in;
+use crate::room::close_in;
+use crate::room::set_in;
+use crate::room::undo_in;
 use crate::values::Choice;
-use crate::values::lowest_unset;
-use crate::values::set_value;
-use crate::values::unset_value;
-use buffers::copy::copy_first;
+use board::close::Closing;
+use board::literal::literal_of;
 use rules::Outcome;
 use rules::Var;
 ghost use mathlib.Core.Path.{_≡_};
-ghost use Prim.Native.Nat.{_≤_};
 ghost use lib.ListN.{length, take};
-ghost use Rattle.search.specs.Closings.{CallOver};
-ghost use Rattle.search.specs.Calls.{TryOver, Calls, Tries, unlessModel};
+ghost use Rattle.search.specs.Boards.{TakenBack, goesAgain, WentOn, Tried};
+ghost use Rattle.search.specs.Rooms.{UndoIn, GoIn, TryIn};
 
 // What a call ends with, and the meter as it then is. The model's values are in the lent buffer.
 pub struct CallEnd {
@@ -24,78 +28,191 @@ pub struct CallEnd {
     pub meter: Meter,
 }
 
-// Unless a model was found the values become those that were saved.
-fn take_back(values: &mut [u8], saved: &[u8], outcome: Outcome)
-    requires { ⌜ length (now values) ≤ length (now saved) ⌝ }
-    ensures { λ _. ⌜ now (values .exit) ≡ unlessModel outcome (now (values .entry)) (take (length (now (values .entry))) (now (saved .entry))) ⌝ }
+// Unless a model was found, what was set since the trail had the length `to` is taken back.
+// Rules out: a model taken back; values left after none.
+// Required of: go_on and try_value, with the length at their start.
+fn take_back(
+    lists: &[u16; MAX_PARTS],
+    holders: &[u16; rules::MAX_LIST],
+    marks: &[u8; MAX_CODES],
+    values: &mut [u8; rules::MAX_VARS as usize],
+    keys: &mut [u32; rules::MAX_STARTS],
+    hot: &mut [u16; MAX_BLOCKS],
+    trail: &mut [u16; MAX_TRAIL],
+    vars: usize,
+    count: usize,
+    to: u16,
+    outcome: Outcome,
+)
+    requires { ⌜ UndoIn vars count (now lists) (now holders) (now marks) (now values) (now keys) (now hot) (now trail) to ⌝ }
+    ensures { λ _. ⌜ TakenBack (now (lists .entry)) (now (holders .entry)) (now (marks .entry))
+        (take vars (now (values .entry))) (take count (now (keys .entry))) (now (hot .entry)) (now (trail .entry)) to outcome
+        (take vars (now (values .exit))) (take count (now (keys .exit))) (now (hot .exit)) (now (trail .exit)) ⌝ }
 {
     if let Outcome::Model = outcome {
         return;
     }
-    let n = values.len();
-    copy_first(saved, values, n);
+    undo_in(
+        lists,
+        holders,
+        marks,
+        values,
+        keys,
+        hot,
+        trail,
+        vars,
+        count,
+        to,
+    );
+}
+
+// Whether true is tried after a try: if false was, and found nothing.
+// Rules out: true tried after a stop; a third try.
+fn goes_again(outcome: Outcome, value: bool) -> bool
+    ensures { λ r. ⌜ r ≡ goesAgain outcome value ⌝ }
+{
+    match outcome {
+        Outcome::Model => false,
+        Outcome::NoModel => !value,
+        Outcome::Stopped => false,
+    }
 }
 
 // Going on: close; on a clash there is no model here; if all variables are set, this is the model; otherwise take the lowest unset
-// variable and try it false, then, if that finds nothing, true.
+// variable, below which and so below `from` all are set, and try it false, then, if that finds nothing, true.
 // Rules out: the model with true before false; stopped as none.
-// Required of: backbone::first::first_call, calls::next::chunk_call and reason::call::blank_call, after 10, 11 and 12; try_value, which requires it too.
+// Required of: whole::in_room, for the board that it has made; try_value, which requires it too.
 pub fn go_on<'a>(
     entries: &'a [i32],
     starts: &[u16],
     constraint: &'a [i32],
-    total: u32,
-    values: &mut [u8],
+    lists: &[u16; MAX_PARTS],
+    holders: &[u16; rules::MAX_LIST],
+    marks: &[u8; MAX_CODES],
+    values: &mut [u8; rules::MAX_VARS as usize],
+    keys: &mut [u32; rules::MAX_STARTS],
+    hot: &mut [u16; MAX_BLOCKS],
+    trail: &mut [u16; MAX_TRAIL],
+    vars: usize,
+    total: usize,
+    from: usize,
     meter: Meter,
 ) -> CallEnd
-    requires { ⌜ CallOver (length (now values)) (now entries) (now starts) (now constraint) total ⌝ }
-    ensures { λ r. ⌜ Calls (now (entries .entry)) (now (constraint .entry)) total (now (values .entry)) meter r (now (values .exit)) ⌝ }
+    requires { ⌜ GoIn vars (now entries) (now starts) (now constraint) (now lists) (now holders) (now marks)
+        (now values) (now keys) (now hot) (now trail) total from ⌝ }
+    ensures { λ r. ⌜ WentOn (now (entries .entry)) (now (constraint .entry)) (now (lists .entry)) (now (holders .entry)) (now (marks .entry))
+        (take vars (now (values .entry))) (now (trail .entry)) total meter r
+        (take vars (now (values .exit))) (take (length (now (starts .entry))) (now (keys .exit))) (now (hot .exit)) (now (trail .exit)) ⌝ }
 {
-    // The one copy of a level, for taking back.
-    let n = values.len();
-    let mut saved = [0u8; rules::MAX_VARS as usize];
-    copy_first(values, &mut saved, n);
-    if let Closing::Clash(_) = close(entries, starts, constraint, total, values) {
-        take_back(values, &saved, Outcome::NoModel);
+    let count = starts.len();
+    let to = trail[0];
+    let closing = close_in(
+        entries,
+        starts,
+        constraint,
+        lists,
+        holders,
+        marks,
+        values,
+        keys,
+        hot,
+        trail,
+        vars,
+        total,
+    );
+    if let Closing::Clash(_) = closing {
+        take_back(
+            lists,
+            holders,
+            marks,
+            values,
+            keys,
+            hot,
+            trail,
+            vars,
+            count,
+            to,
+            Outcome::NoModel,
+        );
         return CallEnd {
             outcome: Outcome::NoModel,
             meter: meter,
         };
     }
-    let Choice::Unset(v) = lowest_unset(values) else {
+    let Choice::Unset(v) = choice_in(values, vars, from) else {
         return CallEnd {
             outcome: Outcome::Model,
             meter: meter,
         };
     };
-    let first = try_value(entries, starts, constraint, total, values, meter, v, false);
-    let outcome = first.outcome;
-    if let Outcome::NoModel = outcome {
-        let rest = first.meter;
-        let second = try_value(entries, starts, constraint, total, values, rest, v, true);
-        let last = second.outcome;
-        take_back(values, &saved, last);
-        return second;
+    let mut rest = meter;
+    let mut value = false;
+    loop {
+        let end = try_value(
+            entries,
+            starts,
+            constraint,
+            lists,
+            holders,
+            marks,
+            values,
+            keys,
+            hot,
+            trail,
+            vars,
+            total,
+            rest,
+            v,
+            value,
+        );
+        let outcome = end.outcome;
+        if goes_again(outcome, value) {
+            rest = end.meter;
+            value = true;
+        } else {
+            take_back(
+                lists,
+                holders,
+                marks,
+                values,
+                keys,
+                hot,
+                trail,
+                vars,
+                count,
+                to,
+                outcome,
+            );
+            return end;
+        }
     }
-    take_back(values, &saved, outcome);
-    first
 }
 
 // Trying a value means setting it and going on. Each value tried is one try; if the budget is spent, the call stops there.
 // Rules out: a try not counted; the variable left set after none.
-// Required of: go_on, for the variable of lowest_unset.
+// Required of: go_on, for the lowest unset variable.
 pub fn try_value<'a>(
     entries: &'a [i32],
     starts: &[u16],
     constraint: &'a [i32],
-    total: u32,
-    values: &mut [u8],
+    lists: &[u16; MAX_PARTS],
+    holders: &[u16; rules::MAX_LIST],
+    marks: &[u8; MAX_CODES],
+    values: &mut [u8; rules::MAX_VARS as usize],
+    keys: &mut [u32; rules::MAX_STARTS],
+    hot: &mut [u16; MAX_BLOCKS],
+    trail: &mut [u16; MAX_TRAIL],
+    vars: usize,
+    total: usize,
     meter: Meter,
     v: Var,
     value: bool,
 ) -> CallEnd
-    requires { ⌜ TryOver (now values) (now entries) (now starts) (now constraint) total (v .0) ⌝ }
-    ensures { λ r. ⌜ Tries (now (entries .entry)) (now (constraint .entry)) total (now (values .entry)) meter (v .0) value r (now (values .exit)) ⌝ }
+    requires { ⌜ TryIn vars (now entries) (now starts) (now constraint) (now lists) (now holders) (now marks)
+        (now values) (now keys) (now hot) (now trail) total (v .0) ⌝ }
+    ensures { λ r. ⌜ Tried (now (entries .entry)) (now (constraint .entry)) (now (lists .entry)) (now (holders .entry)) (now (marks .entry))
+        (take vars (now (values .entry))) (now (trail .entry)) total meter (v .0) value r
+        (take vars (now (values .exit))) (take (length (now (starts .entry))) (now (keys .exit))) (now (hot .exit)) (now (trail .exit)) ⌝ }
 {
     let Asked::Given(left) = ask_try(meter) else {
         return CallEnd {
@@ -103,12 +220,49 @@ pub fn try_value<'a>(
             meter: meter,
         };
     };
-    set_value(values, v, value);
-    let end = go_on(entries, starts, constraint, total, values, left);
+    let count = starts.len();
+    let to = trail[0];
+    set_in(
+        lists,
+        holders,
+        marks,
+        values,
+        keys,
+        hot,
+        trail,
+        vars,
+        count,
+        literal_of(v, value),
+    );
+    let end = go_on(
+        entries,
+        starts,
+        constraint,
+        lists,
+        holders,
+        marks,
+        values,
+        keys,
+        hot,
+        trail,
+        vars,
+        total,
+        v.0 as usize,
+        left,
+    );
     let outcome = end.outcome;
-    if let Outcome::Model = outcome {
-        return end;
-    }
-    unset_value(values, v);
+    take_back(
+        lists,
+        holders,
+        marks,
+        values,
+        keys,
+        hot,
+        trail,
+        vars,
+        count,
+        to,
+        outcome,
+    );
     end
 }

@@ -2,8 +2,8 @@
 // with, as in the log (1 model, 2 none, 3 stopped), and the tries. tests/stack.sh runs it on a stack of 512 KB.
 use formula::starts::find_starts;
 use libc::STDOUT_FILENO;
-use search::call::go_on;
 use search::meter::Meter;
+use search::whole::whole_call;
 
 fn main() {
     let list = [0i32; 1];
@@ -15,7 +15,7 @@ fn main() {
         budget: 1000,
         spent: 0,
     };
-    let end = go_on(none, &starts, none, 0, &mut values, meter);
+    let end = whole_call(none, &starts, none, 0, &mut values, meter);
     let outcome = end.outcome;
     io::write_all(STDOUT_FILENO, b"outcome ");
     io::print_decimal(

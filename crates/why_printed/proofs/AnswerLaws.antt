@@ -22,16 +22,16 @@ use Rattle.rules.specs.declared.WhyReport.{WhyReport}
 use Rattle.rules.specs.Lists.{firstOf}
 use Rattle.rules.specs.Numbers.{maxClauses, maxEntries, readNumber, readPlace}
 use Rattle.rules.specs.Meaning.{clauses}
-use Rattle.rules.specs.Reading.{refused, judge}
-use Rattle.rules.specs.Grammar.{Dimacs}
-use Rattle.rules.specs.Printed.{refusedLine, countIfRoom}
+use Rattle.texts.specs.Reading.{refused, judge}
+use Rattle.texts.specs.Grammar.{Dimacs}
+use Rattle.texts.specs.Printed.{refusedLine, countIfRoom}
 use Rattle.rules.specs.Why.{WhyGiven, whyGiven, Question, questionOf, noMarks, why, whyRules, whyRefusal}
 use Rattle.rules.specs.Why.{whyReportIf, whyReportOf, marksIf, marksAfter, valuesIf, whyValuesAfter, Explains}
-use Rattle.rules.specs.WhyPrinted.{whyTextOfReport, whyBudget, whyAsked, whyTextOfList, whyTextOfJudged, whyTextOf, maxWhy, PrintsWhy}
-use Rattle.rules.proofs.GrammarLaws.{accepted-sound}
-use Rattle.rules.proofs.PlainLaws.{entriesOf-clauses}
-use Rattle.rules.proofs.ReadList.{ReadList}
-use Rattle.rules.proofs.WhyText.{length-whyTextOf}
+use Rattle.texts.specs.WhyPrinted.{whyTextOfReport, whyBudget, whyAsked, whyTextOfList, whyTextOfJudged, whyTextOf, maxWhy, PrintsWhy}
+use Rattle.texts.proofs.GrammarLaws.{accepted-sound}
+use Rattle.texts.proofs.PlainLaws.{entriesOf-clauses}
+use Rattle.texts.proofs.ReadList.{ReadList}
+use Rattle.texts.proofs.WhyText.{length-whyTextOf}
 use Rattle.buffers.specs.Put.{Room, Put}
 use Rattle.buffers.proofs.PutLaws.{room-same}
 use Rattle.buffers.proofs.RoomLaws.{short-count, short-bytes, whole-count, whole-bytes}

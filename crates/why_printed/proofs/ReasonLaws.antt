@@ -20,11 +20,11 @@ use lib.ListN.{length, getD, take}
 use Rattle.rules.specs.declared.WhyReport.{WhyReport}
 use Rattle.rules.specs.Lists.{isSet, count, pieces}
 use Rattle.rules.specs.Meaning.{Clause, varOf, clauses}
-use Rattle.rules.specs.Plain.{decimal}
-use Rattle.rules.specs.Printed.{answerWord, callsWord, triesWord}
-use Rattle.rules.specs.ModelLine.{signed}
+use Rattle.texts.specs.Plain.{decimal}
+use Rattle.texts.specs.Printed.{answerWord, callsWord, triesWord}
+use Rattle.texts.specs.ModelLine.{signed}
 use Rattle.rules.specs.Why.{whyNumber, marked}
-use Rattle.rules.specs.WhyPrinted.{keptWord, clauseWord, whyLine, spacedLiteral, clauseLine, lineIf, keptLine}
+use Rattle.texts.specs.WhyPrinted.{keptWord, clauseWord, whyLine, spacedLiteral, clauseLine, lineIf, keptLine}
 use Rattle.lines.specs.Lines.{countFields}
 use Rattle.formula.specs.Literals.{isPositive}
 use Rattle.formula.specs.Starts.{clauseAt}

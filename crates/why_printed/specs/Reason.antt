@@ -7,9 +7,9 @@ use lib.ListN.{length, drop}
 use Rattle.rules.specs.declared.WhyReport.{WhyReport}
 use Rattle.rules.specs.Numbers.{maxVars, maxClauses, maxEntries}
 use Rattle.rules.specs.Meaning.{clauses}
-use Rattle.rules.specs.Reading.{entriesAfter}
+use Rattle.texts.specs.Reading.{entriesAfter}
 use Rattle.rules.specs.Why.{WhyGiven, marked, marksAfter, whyValuesAfter}
-use Rattle.rules.specs.WhyPrinted.{whyLine, keptLines, whyTextOfReport, whyTextOfList, whyTextOf}
+use Rattle.texts.specs.WhyPrinted.{whyLine, keptLines, whyTextOfReport, whyTextOfList, whyTextOf}
 use Rattle.buffers.specs.Put.{Room, Put}
 use Rattle.formula.specs.Starts.{startsOf}
 

@@ -3,7 +3,7 @@ ghost use mathlib.Core.List.{[]};
 ghost use Prim.Native.Nat.{_<_};
 ghost use lib.ListN.{length};
 ghost use Rattle.rules.specs.Meaning.{clauses};
-ghost use Rattle.rules.specs.WhyPrinted.{lineIf, keptLines};
+ghost use Rattle.texts.specs.WhyPrinted.{lineIf, keptLines};
 ghost use Rattle.buffers.specs.Put.{Put, Room};
 ghost use Rattle.formula.specs.Starts.{Lookup, clauseAt};
 ghost use Rattle.why_printed.specs.Reason.{ClausesReady, ReasonReady, ReasonPut};

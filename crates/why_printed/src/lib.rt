@@ -1,5 +1,5 @@
 // Why a literal is forced, printed (docs/RULES.md, "The printed reason"), into a buffer that is lent.
-ghost use Rattle.rules.specs.WhyPrinted.{PrintsWhy};
+ghost use Rattle.texts.specs.WhyPrinted.{PrintsWhy};
 
 mod answer;
 mod clauses;

@@ -1,6 +1,6 @@
 // The lines of an answer (docs/RULES.md, "The printed reason"), each ended by LF.
 ghost use Rattle.rules.specs.Lists.{pieces};
-ghost use Rattle.rules.specs.WhyPrinted.{whyLine, spacedLiteral, clauseLine};
+ghost use Rattle.texts.specs.WhyPrinted.{whyLine, spacedLiteral, clauseLine};
 ghost use Rattle.buffers.specs.Put.{Put, Room};
 use buffers::put::put_byte;
 use buffers::put::put_field;

@@ -20,7 +20,7 @@ use lib.Seq.{length-take-le}
 use Rattle.rules.specs.declared.Refusal.{Refusal}
 use Rattle.rules.specs.declared.RunAnswer.{RunAnswer}
 use Rattle.rules.specs.declared.Report.{Report}
-use Rattle.rules.specs.Numbers.{maxEntries, maxHeld}
+use Rattle.rules.specs.Numbers.{maxClauses, maxEntries, maxHeld}
 use Rattle.rules.specs.Meaning.{Clause, clauses}
 use Rattle.rules.specs.Lists.{firstOf}
 use Rattle.rules.specs.Run.{Task, Progress, run}
@@ -61,26 +61,30 @@ module _ (a : Asked) (w : Accepted (lentFor a)) where
   entries-most : length list ≤ maxEntries + (maxHeld + maxHeld)
   entries-most = omega (arith, length-listWith (a .entries) (a .held), w .listed .entries-fit, w .holdable .few)
 
+  clauses-most : length (clauses list) ≤ maxClauses + maxHeld
+  clauses-most =
+      omega (
+        arith,
+        ap length clauses-are,
+        length-withHeld (clauses (a .entries)) (a .held),
+        length-clauses (a .entries),
+        w .listed .clauses-fit,
+        w .holdable .few,
+      )
+
   pub asked-over : AskedOver list (take (a .vars) (a .first)) (take (a .vars) (a .witness)) (record { budget = a .budget; chunk = a .limit })
   asked-over =
       record {
         formula =
             record {
               vars-fit = rw first-len (w .listed .lent .in-limits .vars-fit);
-              starts-fit = omega (arith, entries-most);
+              entries-most = entries-most;
+              clauses-most = clauses-most;
               starts-are = refl;
               up-to = rw first-len (listWith-up-to (a .entries) (a .held) (w .up-to) (w .holdable .up-to));
             };
         entries-most = entries-most;
-        clauses-most =
-            omega (
-              arith,
-              ap length clauses-are,
-              length-withHeld (clauses (a .entries)) (a .held),
-              length-clauses (a .entries),
-              w .listed .clauses-fit,
-              w .holdable .few,
-            );
+        clauses-most = clauses-most;
         witness-len = length-take-le (a .vars) (a .witness) witness-fits ∙ sym first-len;
         allowed = record { some = w .listed .lent .in-limits .limit-some; most = w .listed .lent .in-limits .limit-fits };
       }

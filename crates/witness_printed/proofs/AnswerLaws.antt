@@ -27,22 +27,22 @@ use Rattle.rules.specs.declared.Report.{Report}
 use Rattle.rules.specs.Lists.{firstOf}
 use Rattle.rules.specs.Numbers.{maxEntries, readNumber, readPlace}
 use Rattle.rules.specs.Meaning.{Values}
-use Rattle.rules.specs.Reading.{refused, judge}
-use Rattle.rules.specs.Grammar.{Dimacs}
+use Rattle.texts.specs.Reading.{refused, judge}
+use Rattle.texts.specs.Grammar.{Dimacs}
 use Rattle.rules.specs.Run.{Task, Progress, run}
 use Rattle.rules.specs.Answer.{takingRules, outOfLimits, reportIf}
 use Rattle.rules.specs.RunRefusals.{Accepted}
-use Rattle.rules.specs.Printed.{countIfRoom, refusedLine, tableBudget, tableChunk}
-use Rattle.rules.specs.ModelLine.{modelLine}
+use Rattle.texts.specs.Printed.{countIfRoom, refusedLine, tableBudget, tableChunk}
+use Rattle.texts.specs.ModelLine.{modelLine}
 use Rattle.rules.specs.Witness.{witnessAt, freeIn, Asked, asked, askedTask, fewLiterals, elseNotFree, askedRefusal, askedReport, literalsFrom, literalsIf}
 use Rattle.rules.specs.Witness.{firstAfter, witnessAfter, Witnesses, lentFor}
-use Rattle.rules.specs.WitnessPrinted.{literalBit, bitsOf, witnessAsked, witnessTextIf, witnessTextOfAsked, witnessTextOfJudged, witnessTextOf}
-use Rattle.rules.specs.WitnessPrinted.{maxWitness, PrintsWitness}
+use Rattle.texts.specs.WitnessPrinted.{literalBit, bitsOf, witnessAsked, witnessTextIf, witnessTextOfAsked, witnessTextOfJudged, witnessTextOf}
+use Rattle.texts.specs.WitnessPrinted.{maxWitness, PrintsWitness}
 use Rattle.rules.proofs.ListLaws.{never}
-use Rattle.rules.proofs.GrammarLaws.{accepted-sound}
-use Rattle.rules.proofs.ReadList.{ReadList}
+use Rattle.texts.proofs.GrammarLaws.{accepted-sound}
+use Rattle.texts.proofs.ReadList.{ReadList}
 use Rattle.rules.proofs.RunTheorems.{run-answer}
-use Rattle.rules.proofs.WitnessText.{bits-literals, witness-listed, length-witnessTextOf}
+use Rattle.texts.proofs.WitnessText.{bits-literals, witness-listed, length-witnessTextOf}
 use Rattle.buffers.specs.Put.{Room, Put}
 use Rattle.formula.specs.Literals.{isPositive}
 use Rattle.buffers.proofs.PutLaws.{room-same}

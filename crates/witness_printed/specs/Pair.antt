@@ -7,12 +7,12 @@ use lib.ListN.{length}
 use Rattle.rules.specs.declared.RunAnswer.{RunAnswer}
 use Rattle.rules.specs.declared.Report.{Report}
 use Rattle.rules.specs.Numbers.{maxVars, refusalNumber, refusalPlace}
-use Rattle.rules.specs.Reading.{entriesAfter}
+use Rattle.texts.specs.Reading.{entriesAfter}
 use Rattle.rules.specs.RunRefusals.{Accepted}
-use Rattle.rules.specs.Printed.{refusedLine}
-use Rattle.rules.specs.ModelLine.{modelLine}
+use Rattle.texts.specs.Printed.{refusedLine}
+use Rattle.texts.specs.ModelLine.{modelLine}
 use Rattle.rules.specs.Witness.{Asked, askedReport, firstAfter, witnessAfter, lentFor}
-use Rattle.rules.specs.WitnessPrinted.{literalBit, witnessAsked, witnessTextOfAsked, witnessTextOf}
+use Rattle.texts.specs.WitnessPrinted.{literalBit, witnessAsked, witnessTextOfAsked, witnessTextOf}
 use Rattle.buffers.specs.Put.{Room, Put}
 
 abbrev pub lineOf : List ℤ → List ℕ

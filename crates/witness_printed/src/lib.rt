@@ -1,5 +1,5 @@
 // A witness to see, printed (docs/RULES.md, "The printed witness"), into a buffer that is lent.
-ghost use Rattle.rules.specs.WitnessPrinted.{PrintsWitness};
+ghost use Rattle.texts.specs.WitnessPrinted.{PrintsWitness};
 
 mod answer;
 mod pair;

@@ -2,7 +2,7 @@
 ghost use mathlib.Core.Path.{_≡_};
 ghost use mathlib.Core.List.{map};
 ghost use lib.ListN.{length};
-ghost use Rattle.rules.specs.WitnessPrinted.{literalBit};
+ghost use Rattle.texts.specs.WitnessPrinted.{literalBit};
 ghost use Rattle.witness_printed.specs.Pair.{LineReady, PairReady, LinePut, PairPut};
 use formula::lit::sign;
 use lines::model::put_model;

@@ -6,7 +6,7 @@ use mir.Val.{toZ, ofZ}
 use mir.Syntax.{w32}
 use borrow.Author.Needs.{needs}
 use borrow.Author.Tests.{le-leb, lt-leb}
-use Rattle.rules.specs.Text.{entryOf}
+use Rattle.texts.specs.Text.{entryOf}
 use Rattle.reader.specs.declared.token.Token.{Token}
 use Rattle.reader.specs.Words.{maxNumber, tokenOf}
 use Rattle.reader.proofs.StepLaws.{value-back}

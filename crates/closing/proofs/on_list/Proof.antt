@@ -22,13 +22,13 @@ array-share-prefix-starts c = search needs
 abbrev start : tie.After-find-starts → tie.Start
 start c = c .before .before .before
 
-slice-aggregate-close-all : tie.Need-slice-aggregate-close-all
-slice-aggregate-close-all c =
+slice-aggregate-whole-close : tie.Need-slice-aggregate-whole-close
+slice-aggregate-whole-close c =
     let found = c .before .before in
     front-len _ _ (omega (arith, found .find-starts .ensures .count-is, start found .pre .clauses-most, found .find-starts .kept .1 .0))
 
-close-all-requires : tie.Need-close-all-requires
-close-all-requires c κs =
+whole-close-requires : tie.Need-whole-close-requires
+whole-close-requires c κs =
     let found = c .before .before .before in found-formula (start found .pre .formula) (found .find-starts .ensures)
 
 tell-requires : tie.Need-tell-requires
@@ -42,7 +42,7 @@ returns c =
     let told = c .before .before in
     let called = told .before .before .before .before in
     let s = start (called .before .before .before .before) in
-    done-told (s .args .entries .now) _ (called .close-all .kept .1 .1 .0) (called .close-all .ensures) (told .tell .ensures)
+    done-told (s .args .entries .now) _ (called .whole-close .kept .1 .1 .0) (called .whole-close .ensures) (told .tell .ensures)
 
 pub on-list-spec : {M : Type 1} → statement M
 on-list-spec =
@@ -52,8 +52,8 @@ on-list-spec =
     find-starts-requires
     add-starts
     array-share-prefix-starts
-    slice-aggregate-close-all
-    close-all-requires
+    slice-aggregate-whole-close
+    whole-close-requires
     tell-requires
     same-length
     returns)

@@ -4,7 +4,7 @@ use mathlib.Core.Bool.{true, false}
 use mathlib.Core.Logic.{⊎-elim}
 use borrow.Author.Tests.{ltb-true, ltb-false}
 use borrow.Author.Needs.{needs}
-use Rattle.rules.specs.Reading.{fits}
+use Rattle.texts.specs.Reading.{fits}
 use Rattle.reader.specs.Words.{sizes}
 use Rattle.reader.proofs.HeaderLaws.{line-bad, line-large, line-fits, large-vars, large-clauses, small-both}
 use Rattle.reader.proofs.StoreLaws.{stores-of, stores-refused}

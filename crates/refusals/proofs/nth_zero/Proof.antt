@@ -4,7 +4,7 @@ use Prim.Native.Nat.{_-_}
 use borrow.Author.Needs.{needs}
 use lib.IntN.{ℤ, pos}
 use lib.ListN.{length, getD}
-use Rattle.rules.specs.Reading.{isZero}
+use Rattle.rules.specs.Lists.{isZero}
 use Rattle.refusals.proofs.RefuseLaws.{Seek, seek-start, seek-pass, seek-count, seek-found, seek-done, isZero-same, isZero-other}
 use Rattle.refusals.proofs.nth_zero.Statement.{statement}
 use Rattle.refusals.proofs.nth_zero.Tie as tie

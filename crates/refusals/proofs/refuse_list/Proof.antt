@@ -5,9 +5,8 @@ use Prim.Native.Nat.{_≤_}
 use borrow.Author.Needs.{needs}
 use borrow.Author.Tests.{not-true, not-false}
 use lib.ListN.{length}
-use Rattle.rules.specs.Lists.{nthIndex}
+use Rattle.rules.specs.Lists.{nthIndex, isZero}
 use Rattle.rules.specs.Numbers.{maxClauses}
-use Rattle.rules.specs.Reading.{isZero}
 use Rattle.rules.specs.Answer.{isEnded}
 use Rattle.refusals.proofs.FoundLaws.{list-long-found, not-ended-found, zero-over-found, above-found, list-found}
 use Rattle.refusals.proofs.refuse_list.Statement.{statement}

@@ -1,9 +1,11 @@
 -- `search_deep::main` is safe, and meets what the search requires: the list has no entry, and there are 256 variables.
 -- Assumes nothing.
+use mathlib.Core.Path.{refl}
 use mathlib.Core.List.{List·Memᴰ·not-nil}
 use Prim.Native.Nat.{zero-le}
-use lib.Dec.{lit≤, lit<}
+use lib.Dec.{lit≤}
 use Rattle.formula.specs.Starts.{startsOf}
+use Rattle.search.proofs.WholeLaws.{call-blank}
 use borrow.Author.Needs.{needs}
 use Rattle.search_deep.proofs.main.Statement.{statement}
 use Rattle.search_deep.proofs.main.Tie as tie
@@ -20,26 +22,28 @@ slice-aggregate-find-starts c = search needs
 find-starts-requires : tie.Need-find-starts-requires
 find-starts-requires c κs = search needs
 
-slice-aggregate-go-on : tie.Need-slice-aggregate-go-on
-slice-aggregate-go-on c = search needs
+slice-aggregate-whole-call : tie.Need-slice-aggregate-whole-call
+slice-aggregate-whole-call c = search needs
 
-slice-aggregate-go-on-2 : tie.Need-slice-aggregate-go-on-2
-slice-aggregate-go-on-2 c = search needs
+slice-aggregate-whole-call-2 : tie.Need-slice-aggregate-whole-call-2
+slice-aggregate-whole-call-2 c = search needs
 
-go-on-requires : tie.Need-go-on-requires
+whole-call-requires : tie.Need-whole-call-requires
 unfolding startsOf
-go-on-requires c κs =
-    record {
+whole-call-requires c κs =
+    call-blank 256 refl
+    (record {
       formula =
           record {
             vars-fit = lit≤ tt;
-            starts-fit = lit< tt;
+            entries-most = zero-le;
+            clauses-most = zero-le;
             starts-are = c .before .before .before .find-starts .ensures .starts-are;
             up-to = λ l i. absurd (List·Memᴰ·not-nil i);
           };
       constraint-up-to = record { each = λ l i. absurd (List·Memᴰ·not-nil i) };
       total-most = zero-le;
-    }
+    })
 
 slice-aggregate-write-all : tie.Need-slice-aggregate-write-all
 slice-aggregate-write-all c = search needs
@@ -85,9 +89,9 @@ main-spec =
     slice-aggregate-none
     slice-aggregate-find-starts
     find-starts-requires
-    slice-aggregate-go-on
-    slice-aggregate-go-on-2
-    go-on-requires
+    slice-aggregate-whole-call
+    slice-aggregate-whole-call-2
+    whole-call-requires
     slice-aggregate-write-all
     write-all-requires
     outcome-number-requires

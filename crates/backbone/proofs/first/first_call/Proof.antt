@@ -1,10 +1,12 @@
 -- `first::first_call` meets its contract: the values are cleared, and the clauses are the formula's alone. Assumes nothing.
 use native.Mathlib.Omega.{arith}
+use lib.ListN.{length}
 use borrow.Author.Needs.{needs}
 use Rattle.rules.proofs.ClauseLaws.{clauses-le}
 use Rattle.formula.proofs.ClauseLaws.{length-starts}
+use Rattle.search.proofs.WholeLaws.{call-blank, formula-clauses}
 use Rattle.calls.proofs.CallLaws.{ends-same}
-use Rattle.backbone.proofs.FirstLaws.{first-over, first-clauses}
+use Rattle.backbone.proofs.FirstLaws.{first-over}
 use Rattle.backbone.proofs.first.first_call.Statement.{statement}
 use Rattle.backbone.proofs.first.first_call.Tie as tie
 
@@ -24,15 +26,15 @@ sub-total c = omega (arith, length-starts (start (c .before .before) .pre))
 cast-total : tie.Need-cast-total
 cast-total c =
     let s = start (c .before .before) in
-    omega (arith, length-starts (s .pre), clauses-le (s .args .entries .now), s .pre .starts-fit)
+    omega (arith, length-starts (s .pre), clauses-le (s .args .entries .now), s .pre .entries-most)
 
-slice-aggregate-go-on : tie.Need-slice-aggregate-go-on
-slice-aggregate-go-on c = search needs
+slice-aggregate-whole-call : tie.Need-slice-aggregate-whole-call
+slice-aggregate-whole-call c = search needs
 
-go-on-requires : tie.Need-go-on-requires
-go-on-requires c κs =
+whole-call-requires : tie.Need-whole-call-requires
+whole-call-requires c κs =
     let cleared = c .before .before .before .before in
-    first-over (start cleared .pre) (cleared .clear-bytes .kept .0)
+    call-blank (length (start cleared .args .values .now)) (cleared .clear-bytes .ensures) (first-over (start cleared .pre) (cleared .clear-bytes .kept .0))
 
 same-length : tie.Need-same-length
 same-length c = search needs
@@ -40,7 +42,7 @@ same-length c = search needs
 returns : tie.Need-returns
 returns c =
     let cleared = c .before .before .before .before .before .before .before in
-    ends-same 0 (first-clauses (start cleared .pre)) (cleared .clear-bytes .ensures) (c .before .before .go-on .ensures)
+    ends-same 0 (formula-clauses (start cleared .pre)) (cleared .clear-bytes .ensures) (c .before .before .whole-call .ensures)
 
 pub first-call-spec : {M : Type 1} → statement M
 first-call-spec =
@@ -49,7 +51,7 @@ first-call-spec =
     clear-bytes-requires
     sub-total
     cast-total
-    slice-aggregate-go-on
-    go-on-requires
+    slice-aggregate-whole-call
+    whole-call-requires
     same-length
     returns)

@@ -1,6 +1,7 @@
--- `first::room_for_values` meets its contract: the front is as long as the statuses. Assumes nothing.
+-- `first::room_for_values` meets its contract: the front is as long as the statuses, and the blocks are blank. Assumes nothing.
 use mathlib.Core.Path.{sym}
 use borrow.Author.Needs.{needs}
+use Rattle.board.proofs.ConstraintLaws.{blank-at}
 use Rattle.backbone.proofs.ListingLaws.{front-len}
 use Rattle.backbone.proofs.first.room_for_values.Statement.{statement}
 use Rattle.backbone.proofs.first.room_for_values.Tie as tie
@@ -13,8 +14,11 @@ slice-aggregate-all-calls c = front-len _ _ (c .before .before .before .before .
 
 all-calls-requires : tie.Need-all-calls-requires
 all-calls-requires c κs =
-    let p = c .before .before .before .before .before .before .before .before .before .before .before .before .pre in
-    record { begins = p; values-len = sym (front-len _ _ (p .formula .vars-fit)) }
+    let far = c .before .before .before .before .before .before .before .before .before in
+    let p = far .before .before .before .before .before .before .before .before .before .before .pre in (
+      record { begins = p; values-len = sym (front-len _ _ (p .formula .vars-fit)) },
+      blank-at 41,
+    )
 
 same-length : tie.Need-same-length
 same-length c = search needs

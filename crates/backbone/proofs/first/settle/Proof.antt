@@ -31,7 +31,7 @@ abbrev compared : tie.After-put-records → tie.After-after-model
 compared c = c .before .before .before .before .before .before .before .before .before .before .before .before
 
 abbrev recorded : tie.After-run-calls → tie.After-put-records
-recorded c = c .before .before .before .before .before .before .before .before .before .before .before
+recorded c = c .before .before .before .before .before .before .before .before .before .before .before .before .before .before .before .before
 
 abbrev ran : tie.After-slice-known17 → tie.After-run-calls
 ran c = c .before .before .before .before .before .before .before .before .before .before
@@ -52,7 +52,7 @@ copy-first-requires c κs = search needs
 kept-model : (c : tie.After-copy-first) → c .copy-first .last .1 .0 ≡ the-model (start c)
 kept-model c =
     let s = start c in
-    copied-whole (s .args .values .now) (s .args .first .now) (s .pre .begins .first-len ∙ sym (s .pre .values-len)) (c .copy-first .ensures)
+    copied-whole (s .args .values .now) (s .args .first .now) (s .pre .0 .begins .first-len ∙ sym (s .pre .0 .values-len)) (c .copy-first .ensures)
 
 cast-started : tie.Need-cast-started
 cast-started c = search needs
@@ -65,8 +65,8 @@ after-model-requires c κs =
     let st = c .before .before .before .before in
     let co = copied st in
     let s = start co in
-    let b = s .pre .begins in
-    let n = s .pre .values-len in
+    let b = s .pre .0 .begins in
+    let n = s .pre .0 .values-len in
     record {
       formula = rw n (b .formula);
       tally = ready-begun (b .cleared) _ (st .started .ensures) (ap length (kept-model co) ∙ n) n (b .formula .vars-fit) _;
@@ -84,8 +84,8 @@ there c =
     let s = start co in
     let k = the-task s in
     let m = the-model s in
-    let z = s .pre .begins .cleared in
-    shows-model k (begun k m) _ (shows-begun z k m _ (st .started .ensures) refl (kept-model co) (s .pre .values-len))
+    let z = s .pre .0 .begins .cleared in
+    shows-model k (begun k m) _ (shows-begun z k m _ (st .started .ensures) refl (kept-model co) (s .pre .0 .values-len))
     (room-begun z _ (st .started .ensures)) refl (c .after-model .ensures)
 
 put-records-requires : tie.Need-put-records-requires
@@ -95,10 +95,10 @@ put-records-requires c κs =
     let s = start co in
     let kept = am .after-model .kept in
     let len = kept .1 .1 .1 .1 .0 in
-    let lent = cleared-lent (s .pre .begins .cleared) in
+    let lent = cleared-lent (s .pre .0 .begins .cleared) in
     record {
-      first-len = ap length (kept-model co) ∙ s .pre .values-len ∙ sym len;
-      model-len = kept .1 .1 .1 .0 ∙ s .pre .values-len ∙ sym len;
+      first-len = ap length (kept-model co) ∙ s .pre .0 .values-len ∙ sym len;
+      model-len = kept .1 .1 .1 .0 ∙ s .pre .0 .values-len ∙ sym len;
       calls-len = lent .calls-len ∙ sym len;
       ways-len = lent .ways-len ∙ sym len;
     }
@@ -112,35 +112,37 @@ shown c =
     let co = copied (begins am) in
     let s = start co in
     let x = there am .1 in
-    records-first (the-task s) (the-model s) (s .args .spent) (shows-none (s .pre .begins .cleared)) (x .calls-is) (kept-model co)
+    records-first (the-task s) (the-model s) (s .args .spent) (shows-none (s .pre .0 .begins .cleared)) (x .calls-is) (kept-model co)
     (am .after-model .ensures .flips .model-same) (x .status-is) (c .put-records .ensures)
 
 run-calls-requires : tie.Need-run-calls-requires
 run-calls-requires c κs =
-    let put = c .before .before .before .before .before .before .before .before .before .before in
+    let put = c .before .before .before .before .before .before .before .before .before .before .before .before .before .before .before in
     let am = compared put in
     let s = start (copied (begins am)) in
     let kept = am .after-model .kept in
     let len = kept .1 .1 .1 .1 .0 in
-    let lent = cleared-lent (s .pre .begins .cleared) in
-    record {
-      over =
-          record {
-            formula = rw len (s .pre .begins .formula);
-            values-len = kept .1 .1 .1 .0 ∙ s .pre .values-len ∙ sym len;
-            allowed = s .pre .begins .allowed;
-            here = rw len (first-at (the-task s) (the-model s) (s .args .spent) (s .pre .found) (there am));
-          };
-      lent =
-          record {
-            calls-len = put .put-records .kept .1 .1 .1 .0 ∙ lent .calls-len ∙ sym len;
-            ways-len = put .put-records .kept .1 .1 .1 .1 .0 ∙ lent .ways-len ∙ sym len;
-          };
-    }
+    let lent = cleared-lent (s .pre .0 .begins .cleared) in (
+      record {
+        over =
+            record {
+              formula = rw len (s .pre .0 .begins .formula);
+              values-len = kept .1 .1 .1 .0 ∙ s .pre .0 .values-len ∙ sym len;
+              allowed = s .pre .0 .begins .allowed;
+              here = rw len (first-at (the-task s) (the-model s) (s .args .spent) (s .pre .0 .found) (there am));
+            };
+        lent =
+            record {
+              calls-len = put .put-records .kept .1 .1 .1 .0 ∙ lent .calls-len ∙ sym len;
+              ways-len = put .put-records .kept .1 .1 .1 .1 .0 ∙ lent .ways-len ∙ sym len;
+            };
+      },
+      rw len (s .pre .1),
+    )
 
 same-length : tie.Need-same-length
 same-length c =
-    let am = compared (recorded (ran c)) in ran c .run-calls .kept .1 .1 .1 .1 .1 .1 .1 .0 ∙ am .after-model .kept .1 .1 .1 .0
+    let am = compared (recorded (ran c)) in ran c .run-calls .kept .1 .1 .1 .1 .1 .1 .1 .1 .1 .1 .1 .1 .1 .1 .0 ∙ am .after-model .kept .1 .1 .1 .0
 
 same-length-2 : tie.Need-same-length-2
 same-length-2 c = copied (begins (compared (recorded (ran c)))) .copy-first .kept .1 .0
@@ -166,7 +168,7 @@ returns c =
     let s = start (copied (begins am)) in
     let k = the-task s in
     let m = the-model s in
-    let found = s .pre .found in
+    let found = s .pre .0 .found in
     let len = am .after-model .kept .1 .1 .1 .1 .0 in
     let ends = rw len at (ran c .run-calls .ensures .ends) in
     let records = rw len at (ran c .run-calls .ensures .records) in

@@ -4,12 +4,13 @@ use Prim.Native.Nat.{_-_}
 use native.Mathlib.Omega.{arith}
 use borrow.Author.Needs.{needs}
 use lib.ListN.{length}
+use Rattle.rules.specs.Lists.{isSet}
 use Rattle.buffers.proofs.CountLaws.{Counting, counting-start, counting-step, counting-done}
 use Rattle.buffers.proofs.count.count_set.Statement.{statement}
 use Rattle.buffers.proofs.count.count_set.Tie as tie
 
 abbrev Inv-loop : tie.InvT-loop
-Inv-loop bytes set₀ i₀ set i = Counting bytes i set
+Inv-loop bytes set₀ i₀ set i = Counting isSet bytes i set
 
 abbrev μ-loop : tie.MeasureT-loop
 μ-loop bytes set₀ i₀ set i = length bytes - i
@@ -34,7 +35,7 @@ loop-less c = search needs
 loop-again : tie.Need-loop-again Inv-loop μ-loop
 loop-again c =
     let turn = c .before .before in
-    counting-step (turn .before .loop .inv) (turn .loop-test .taken) (c .counted-if .ensures)
+    counting-step 0 (turn .before .loop .inv) (turn .loop-test .taken) (c .counted-if .ensures)
 
 returns : tie.Need-returns Inv-loop μ-loop
 returns c = counting-done (c .before .loop .inv) (c .loop-test .left)

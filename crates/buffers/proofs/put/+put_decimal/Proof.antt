@@ -4,8 +4,8 @@ use mathlib.Core.Path.{sym}
 use mathlib.Core.List.{[], _∷_}
 use native.Mathlib.Omega.{arith}
 use borrow.Author.Needs.{needs}
-use Rattle.rules.specs.Plain.{decimal, digit}
-use Rattle.rules.proofs.DecimalLaws.{decimal-small, decimal-more}
+use Rattle.texts.specs.Plain.{decimal, digit}
+use Rattle.texts.proofs.DecimalLaws.{decimal-small, decimal-more}
 use Rattle.buffers.proofs.PutLaws.{room-first, room-then, room-same, put-then, put-same}
 use Prim.Native.Nat.{ℕ, _<_, _/_, _%_}
 use borrow.Fn.Kinds.{In}

@@ -1,6 +1,6 @@
 -- `buffers::put::put_field` meets its contract: the number stands behind the word. Assumes nothing.
 use borrow.Author.Needs.{needs}
-use Rattle.rules.specs.Plain.{decimal}
+use Rattle.texts.specs.Plain.{decimal}
 use Rattle.buffers.proofs.PutLaws.{room-first, room-then, put-then}
 use Rattle.buffers.proofs.put.put_field.Statement.{statement}
 use Rattle.buffers.proofs.put.put_field.Tie as tie

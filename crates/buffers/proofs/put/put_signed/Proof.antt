@@ -4,8 +4,8 @@ use mathlib.Core.Bool.{Bool, true}
 use mathlib.Core.List.{[], _∷_, _++_}
 use Prim.Native.Nat.{ℕ}
 use borrow.Author.Needs.{needs}
-use Rattle.rules.specs.Plain.{decimal}
-use Rattle.rules.specs.ModelLine.{signed}
+use Rattle.texts.specs.Plain.{decimal}
+use Rattle.texts.specs.ModelLine.{signed}
 use Rattle.buffers.proofs.PutLaws.{room-first, room-then, room-same, put-then, put-same}
 use Rattle.buffers.proofs.put.put_signed.Statement.{statement}
 use Rattle.buffers.proofs.put.put_signed.Tie as tie

@@ -13,7 +13,7 @@ use Rattle.rules.proofs.ListLaws.{count-le}
 use Rattle.rules.proofs.StatusLaws.{length-forcedValues}
 use Rattle.rules.proofs.ClauseLaws.{clauses-le}
 use Rattle.formula.proofs.ClauseLaws.{length-starts}
-use Rattle.calls.proofs.CallLaws.{constraint-up-to, chunk-over, chunk-clauses, ends-same}
+use Rattle.calls.proofs.CallLaws.{constraint-up-to, forced-small, chunk-over, chunk-clauses, ends-same}
 use Rattle.calls.proofs.next.chunk_call.Statement.{statement}
 use Rattle.calls.proofs.next.chunk_call.Tie as tie
 
@@ -58,20 +58,24 @@ start-is c = filled c .fill-start .ensures
 cast-total : tie.Need-cast-total
 cast-total c =
     let s = start (c .before) in
-    omega (arith, length-starts (s .pre .formula), clauses-le (s .args .entries .now), s .pre .formula .starts-fit)
+    omega (arith, length-starts (s .pre .formula), clauses-le (s .args .entries .now), s .pre .formula .entries-most)
 
 array-share-prefix-literals : tie.Need-array-share-prefix-literals
 array-share-prefix-literals c = room (c .before)
 
-slice-aggregate-go-on : tie.Need-slice-aggregate-go-on
-slice-aggregate-go-on c = sym (length-take-le _ _ (room (c .before .before)))
+slice-aggregate-whole-call : tie.Need-slice-aggregate-whole-call
+slice-aggregate-whole-call c = sym (length-take-le _ _ (room (c .before .before)))
 
-go-on-requires : tie.Need-go-on-requires
-go-on-requires c κs =
+whole-call-requires : tie.Need-whole-call-requires
+whole-call-requires c κs =
     let put = c .before .before .before in
     let s = start put in
-    chunk-over (s .pre .formula) _ (ap length (start-is put) ∙ length-forcedValues (s .args .status .now) ∙ s .pre .status-len)
-    (rw (put .put-constraint .ensures .front, ← s .pre .status-len) (constraint-up-to (s .args .first .now) (s .args .status .now) (s .args .chunk)))
+    record {
+      call =
+          chunk-over (s .pre .formula) _ (ap length (start-is put) ∙ length-forcedValues (s .args .status .now) ∙ s .pre .status-len)
+          (rw (put .put-constraint .ensures .front, ← s .pre .status-len) (constraint-up-to (s .args .first .now) (s .args .status .now) (s .args .chunk)));
+      small = λ i h. rw (start-is put) (forced-small (s .args .status .now) i);
+    }
 
 same-length : tie.Need-same-length
 same-length c = search needs
@@ -84,7 +88,7 @@ returns c =
     let literals = take (s .args .chunk) (put .put-constraint .last .1 .1 .1 .0) in
     ends-same (s .args .meter .spent)
     (chunk-clauses (s .pre .formula) literals ∙ ap (λ (con : Clause). clauses (s .args .entries .now) ++ con ∷ []) (put .put-constraint .ensures .front))
-    (start-is put) (go .go-on .ensures)
+    (start-is put) (go .whole-call .ensures)
 
 pub chunk-call-spec : {M : Type 1} → statement M
 chunk-call-spec =
@@ -95,7 +99,7 @@ chunk-call-spec =
     put-constraint-requires
     cast-total
     array-share-prefix-literals
-    slice-aggregate-go-on
-    go-on-requires
+    slice-aggregate-whole-call
+    whole-call-requires
     same-length
     returns)

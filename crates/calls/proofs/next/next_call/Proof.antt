@@ -3,6 +3,7 @@ use mathlib.Core.Path.{_≡_, sym, _∙_}
 use native.Mathlib.Omega.{arith}
 use borrow.Author.Needs.{needs}
 use lib.ListN.{length}
+use Rattle.search.specs.Rooms.{BoardKept}
 use Rattle.calls.specs.declared.after.Made.{Made}
 use Rattle.calls.specs.After.{TallyReady}
 use Rattle.calls.proofs.CallLaws.{tally-ready, size-le}
@@ -15,57 +16,67 @@ use Rattle.calls.proofs.next.next_call.Tie as tie
 abbrev start : tie.After-lesser → tie.Start
 start c = c .before .before .before .before .before .before
 
-abbrev took : tie.After-chunk-call → tie.After-lesser
-took c = c .before .before .before
+abbrev took : tie.After-chunk-in → tie.After-lesser
+took c = c .before .before .before .before .before .before .before .before
 
-abbrev called : tie.After-after → tie.After-chunk-call
+abbrev called : tie.After-after → tie.After-chunk-in
 called c = c .before .before .before
 
 -- the call as it was made
-abbrev made : tie.After-chunk-call → Made
-made c = record { chunk = took c .lesser .result; spent = c .chunk-call .result .meter .spent }
+abbrev made : tie.After-chunk-in → Made
+made c = record { chunk = took c .lesser .result; spent = c .chunk-in .result .meter .spent }
 
 -- ---- the answers
 
 lesser-requires : tie.Need-lesser-requires
 lesser-requires c κs = search needs
 
-chunk-call-requires : tie.Need-chunk-call-requires
-chunk-call-requires c κs =
-    let l = c .before .before in
+chunk-in-requires : tie.Need-chunk-in-requires
+chunk-in-requires c κs =
+    let l = c .before .before .before .before .before .before .before in
     let s = start l in
-    let o = s .pre .over in
-    let ready = tally-ready (o .allowed .some) (o .formula .vars-fit) (o .here) (s .pre .some) (record { chunk = 0; spent = s .args .t .tries })
-    (omega arith) in
-    record {
-      formula = rw (o .values-len) (o .formula);
-      first-len = ready .len ∙ sym (o .values-len);
-      status-len = sym (o .values-len);
-      chunk-most = omega (arith, l .lesser .ensures, ready .candidates-are);
-    }
+    let o = s .pre .0 .over in
+    let ready = tally-ready (o .allowed .some) (o .formula .vars-fit) (o .here) (s .pre .0 .some) (record { chunk = 0; spent = s .args .t .tries })
+    (omega arith) in (
+      record {
+        formula = rw (o .values-len) (o .formula);
+        first-len = ready .len ∙ sym (o .values-len);
+        status-len = sym (o .values-len);
+        chunk-most = omega (arith, l .lesser .ensures, ready .candidates-are);
+      },
+      rw (o .values-len) (s .pre .1),
+    )
+
+-- the board behind it
+board-kept : (c : tie.After-chunk-in) → let s = start (took c) in
+    BoardKept (length (s .args .status .now)) (s .args .entries .now) (s .args .starts .now) (s .args .lists .now) (s .args .holders .now)
+    (c .chunk-in .last .1 .1 .1 .1 .1 .1 .0) (c .chunk-in .last .1 .1 .1 .1 .1 .1 .1 .0)
+    (c .chunk-in .last .1 .1 .1 .1 .1 .1 .1 .1 .0) (c .chunk-in .last .1 .1 .1 .1 .1 .1 .1 .1 .1 .0)
+    (c .chunk-in .last .1 .1 .1 .1 .1 .1 .1 .1 .1 .1 .0)
+board-kept c = rw (start (took c) .pre .0 .over .values-len) at (c .chunk-in .ensures .1)
 
 -- what is required behind the call
-ready : (c : tie.After-chunk-call)
+ready : (c : tie.After-chunk-in)
     → let s = start (took c) in TallyReady (s .args .first .now) (s .args .status .now) (s .args .log .now) (s .args .t) (made c)
 ready c =
     let s = start (took c) in
-    let o = s .pre .over in
-    tally-ready (o .allowed .some) (o .formula .vars-fit) (o .here) (s .pre .some) (made c)
+    let o = s .pre .0 .over in
+    tally-ready (o .allowed .some) (o .formula .vars-fit) (o .here) (s .pre .0 .some) (made c)
     (call-up (s .args .entries .now) (s .args .first .now) (s .args .status .now) (took c .lesser .result) (meterOf (s .args .limits) (s .args .t))
-    (c .chunk-call .ensures))
+    (c .chunk-in .ensures .0))
 
 -- the call that was made
-called-is : (c : tie.After-chunk-call) → let s = start (took c) in
+called-is : (c : tie.After-chunk-in) → let s = start (took c) in
     CallMade (s .args .entries .now) (s .args .limits) (s .args .t) (s .args .first .now) (s .args .status .now) (s .args .log .now)
-    (took c .lesser .result) (c .chunk-call .result) (c .chunk-call .last .1 .1 .1 .1 .0)
+    (took c .lesser .result) (c .chunk-in .result) (c .chunk-in .last .1 .1 .1 .1 .1 .1 .1 .1 .1 .1 .1 .0)
 called-is c =
-    let p = start (took c) .pre in
+    let p = start (took c) .pre .0 in
     record {
       some-limit = p .over .allowed .some;
       some = p .some;
       room = ready c .row .log-room;
       chunk-is = took c .lesser .ensures;
-      ended = c .chunk-call .ensures;
+      ended = c .chunk-in .ensures .0;
     }
 
 enum-told : tie.Need-enum-told
@@ -75,9 +86,9 @@ after-model-requires : tie.Need-after-model-requires
 after-model-requires c κs =
     let call = called (c .before .before .before .before .before) in
     let s = start (took call) in
-    let kept = call .chunk-call .kept .1 .1 .1 .1 .0 in
-    let len : length (call .chunk-call .last .1 .1 .1 .1 .0) ≡ length (s .args .status .now) = kept ∙ s .pre .over .values-len in
-    record { formula = rw len (s .pre .over .formula); tally = ready call; model-len = len }
+    let kept = call .chunk-in .kept .1 .1 .1 .1 .1 .1 .1 .1 .1 .1 .1 .0 in
+    let len : length (call .chunk-in .last .1 .1 .1 .1 .1 .1 .1 .1 .1 .1 .1 .0) ≡ length (s .args .status .now) = kept ∙ s .pre .0 .over .values-len in
+    record { formula = rw len (s .pre .0 .over .formula); tally = ready call; model-len = len }
 
 enum-told-2 : tie.Need-enum-told-2
 enum-told-2 c = search needs
@@ -86,7 +97,7 @@ after-none-requires : tie.Need-after-none-requires
 after-none-requires c κs =
     let call = called (c .before .before .before .before) in
     let s = start (took call) in
-    let o = s .pre .over in
+    let o = s .pre .0 .over in
     record {
       tally = ready call;
       chunk-most = omega (arith, took call .lesser .ensures);
@@ -111,9 +122,11 @@ same-length-3 c = search needs
 returns : tie.Need-returns
 returns c =
     let told = c .before .before .before .before .before .before .before .before .before .before in
-    let call = called (told .before .before) in
-    λ w. on-model _ _ (start (took call) .args .limits) w (called-is call) (told .enum-told .given .1)
-    (c .before .before .before .before .before .before .after-model .ensures)
+    let call = called (told .before .before) in (
+      λ w. on-model _ _ (start (took call) .args .limits) w (called-is call) (told .enum-told .given .1)
+          (c .before .before .before .before .before .before .after-model .ensures),
+      board-kept call,
+    )
 
 same-length-4 : tie.Need-same-length-4
 same-length-4 c = search needs
@@ -127,9 +140,11 @@ same-length-6 c = search needs
 returns-2 : tie.Need-returns-2
 returns-2 c =
     let told = c .before .before .before .before .before .before .before in
-    let call = called (told .before .before) in
-    λ w. on-none _ _ (start (took call) .args .limits) w (called-is call) (told .enum-told2 .given .1)
-    (c .before .before .before .before .after-none .ensures)
+    let call = called (told .before .before) in (
+      λ w. on-none _ _ (start (took call) .args .limits) w (called-is call) (told .enum-told2 .given .1)
+          (c .before .before .before .before .after-none .ensures),
+      board-kept call,
+    )
 
 same-length-7 : tie.Need-same-length-7
 same-length-7 c = search needs
@@ -143,16 +158,18 @@ same-length-9 c = search needs
 returns-3 : tie.Need-returns-3
 returns-3 c =
     let told = c .before .before .before .before in
-    let call = called (told .before .before) in
-    λ w. on-stopped _ _ (start (took call) .args .limits) w (called-is call) (told .enum-told3 .given .1)
-    (c .before .before .row-only .ensures)
+    let call = called (told .before .before) in (
+      λ w. on-stopped _ _ (start (took call) .args .limits) w (called-is call) (told .enum-told3 .given .1)
+          (c .before .before .row-only .ensures),
+      board-kept call,
+    )
 
 pub next-call-spec : {M : Type 1} → statement M
 next-call-spec =
     tie.close
     (tie.spec
     lesser-requires
-    chunk-call-requires
+    chunk-in-requires
     enum-told
     after-model-requires
     enum-told-2

@@ -35,7 +35,7 @@ more c = omega (arith, c .loop-test .taken, length-starts (c .before .before .be
 small : (c : tie.In-loop Inv-loop μ-loop) → c .before .loop .k < 65536
 small c =
     let s = c .before .before .before .before in
-    omega (arith, more c, clauses-le (s .args .entries .now), s .pre .starts-fit)
+    omega (arith, more c, clauses-le (s .args .entries .now), s .pre .entries-most)
 
 cast-n : tie.Need-cast-n Inv-loop μ-loop
 cast-n c = omega (arith, small c)

@@ -3,7 +3,7 @@ use mathlib.Core.Path.{_≡_, sym, _∙_, ap}
 use mathlib.Core.List.{List, _++_}
 use Prim.Native.Nat.{ℕ, _-_}
 use borrow.Author.Needs.{needs}
-use Rattle.rules.specs.Printed.{answerLine}
+use Rattle.texts.specs.Printed.{answerLine}
 use Rattle.buffers.specs.Put.{Room}
 use Rattle.lines.specs.Lines.{countFields, endFields}
 use Rattle.buffers.proofs.PutLaws.{room-first, room-then, room-same, put-then, put-same}

@@ -2,8 +2,8 @@
 use mathlib.Core.List.{List, _++_}
 use Prim.Native.Nat.{ℕ}
 use borrow.Author.Needs.{needs}
-use Rattle.rules.specs.Plain.{decimal}
-use Rattle.rules.specs.Printed.{answerWord, callsWord, triesWord}
+use Rattle.texts.specs.Plain.{decimal}
+use Rattle.texts.specs.Printed.{answerWord, callsWord, triesWord}
 use Rattle.buffers.specs.Put.{Room}
 use Rattle.buffers.proofs.PutLaws.{room-first, room-then, put-then}
 use Rattle.lines.proofs.line.put_counts.Statement.{statement}

@@ -2,8 +2,8 @@
 use mathlib.Core.Path.{sym}
 use mathlib.Core.List.{[], _∷_, _++_}
 use borrow.Author.Needs.{needs}
-use Rattle.rules.specs.Plain.{decimal}
-use Rattle.rules.specs.Printed.{refusedWord, placeWord}
+use Rattle.texts.specs.Plain.{decimal}
+use Rattle.texts.specs.Printed.{refusedWord, placeWord}
 use Rattle.buffers.specs.Put.{Room}
 use Rattle.lines.specs.Lines.{refusedFields}
 use Rattle.buffers.proofs.PutLaws.{room-first, room-then, room-same, put-then, put-same}

@@ -3,7 +3,7 @@ use mathlib.Core.Path.{_≡_, sym, ap}
 use Prim.Native.Nat.{ℕ}
 use native.Mathlib.Omega.{arith}
 use borrow.Author.Needs.{needs}
-use Rattle.rules.specs.Printed.{statusWords}
+use Rattle.texts.specs.Printed.{statusWords}
 use Rattle.buffers.proofs.PutLaws.{room-same, put-same}
 use Rattle.lines.proofs.LineLaws.{words-off}
 use Rattle.lines.proofs.line.put_status.Statement.{statement}

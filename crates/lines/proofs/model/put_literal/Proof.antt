@@ -1,7 +1,7 @@
 -- `model::put_literal` meets its contract: the number with its sign behind the space. Assumes nothing.
 use borrow.Author.Needs.{needs}
 use lib.Dec.{eqb}
-use Rattle.rules.specs.ModelLine.{signed, spaceBefore}
+use Rattle.texts.specs.ModelLine.{signed, spaceBefore}
 use Rattle.buffers.proofs.PutLaws.{room-first, room-then, put-then}
 use Rattle.lines.proofs.model.put_literal.Statement.{statement}
 use Rattle.lines.proofs.model.put_literal.Tie as tie

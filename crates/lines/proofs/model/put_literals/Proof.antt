@@ -3,7 +3,7 @@
 use Prim.Native.Nat.{_-_}
 use borrow.Author.Needs.{needs}
 use lib.ListN.{length}
-use Rattle.rules.specs.ModelLine.{modelLiteral}
+use Rattle.texts.specs.ModelLine.{modelLiteral}
 use Rattle.buffers.proofs.PieceLaws.{Piecing, piecing-start, piecing-room, piecing-step, piecing-done}
 use Rattle.lines.proofs.model.put_literals.Statement.{statement}
 use Rattle.lines.proofs.model.put_literals.Tie as tie

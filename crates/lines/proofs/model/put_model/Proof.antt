@@ -2,7 +2,7 @@
 use mathlib.Core.List.{[], _∷_}
 use borrow.Author.Needs.{needs}
 use Rattle.rules.specs.Lists.{pieces}
-use Rattle.rules.specs.ModelLine.{modelLiteral}
+use Rattle.texts.specs.ModelLine.{modelLiteral}
 use Rattle.buffers.proofs.PutLaws.{room-first, room-then, put-then}
 use Rattle.lines.proofs.model.put_model.Statement.{statement}
 use Rattle.lines.proofs.model.put_model.Tie as tie

@@ -6,7 +6,7 @@ use Prim.Native.Nat.{ℕ}
 use native.Mathlib.Omega.{arith}
 use borrow.Author.Needs.{needs}
 use Rattle.rules.specs.Numbers.{runPlace}
-use Rattle.rules.specs.Printed.{refusedLine, answerLine, statusLines, tableOfRun}
+use Rattle.texts.specs.Printed.{refusedLine, answerLine, statusLines, tableOfRun}
 use Rattle.buffers.proofs.PutLaws.{room-then, room-same, put-then, put-same}
 use Rattle.printed.specs.Table.{isRefusal, Ran}
 use Rattle.printed.proofs.TableLaws.{table-refusal, ran-of, table-room, table-first, table-lines}

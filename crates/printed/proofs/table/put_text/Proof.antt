@@ -5,7 +5,7 @@ use native.Mathlib.Omega.{arith}
 use lib.Seq.{length-take-le}
 use borrow.Author.Needs.{needs}
 use Rattle.rules.specs.Numbers.{readNumber}
-use Rattle.rules.specs.Printed.{refusedLine, tableOf}
+use Rattle.texts.specs.Printed.{refusedLine, tableOf}
 use Rattle.buffers.proofs.PutLaws.{room-same, put-same}
 use Rattle.printed.proofs.TableLaws.{ReadList, read-list, read-line}
 use Rattle.printed.proofs.table.put_text.Statement.{statement}

@@ -5,7 +5,7 @@ use Prim.Native.Nat.{ℕ}
 use borrow.Author.Needs.{needs}
 use lib.Seq.{length-take-le}
 use Rattle.rules.specs.Lists.{cut}
-use Rattle.rules.specs.Text.{isGap, sizesOf, wordsOf, headerOf}
+use Rattle.texts.specs.Text.{isGap, sizesOf, wordsOf, headerOf}
 use Rattle.reader.specs.Words.{headerLine}
 use Rattle.reader.proofs.header.header_of.Statement.{statement}
 use Rattle.reader.proofs.header.header_of.Tie as tie

@@ -5,7 +5,7 @@ use mathlib.Core.List.{[], _∷_}
 use borrow.Author.Tests.{not-true, not-false}
 use borrow.Author.Needs.{needs}
 use Rattle.rules.specs.Lists.{eqs}
-use Rattle.rules.specs.Text.{isNumeral, numeral}
+use Rattle.texts.specs.Text.{isNumeral, numeral}
 use Rattle.reader.proofs.NumberLaws.{number-bad, number-good}
 use Rattle.reader.proofs.header.sizes_of.Statement.{statement}
 use Rattle.reader.proofs.header.sizes_of.Tie as tie

@@ -7,7 +7,7 @@ use borrow.Author.Tests.{not-true, not-false}
 use borrow.Author.Needs.{needs}
 use lib.ListN.{length, take}
 use lib.Seq.{take-length}
-use Rattle.rules.specs.Text.{trimmed}
+use Rattle.texts.specs.Text.{trimmed}
 use Rattle.reader.proofs.HeaderLaws.{trim-step, trim-done}
 use Rattle.reader.proofs.header.trimmed_len.Statement.{statement}
 use Rattle.reader.proofs.header.trimmed_len.Tie as tie

@@ -6,7 +6,7 @@ use native.Mathlib.Omega.{arith}
 use borrow.Author.Tests.{not-true, not-false}
 use borrow.Author.Needs.{needs}
 use lib.ListN.{length}
-use Rattle.rules.specs.Text.{isLf, linesOf}
+use Rattle.texts.specs.Text.{isLf, linesOf}
 use Rattle.reader.specs.Scan.{firstFrom}
 use Rattle.reader.specs.Lines.{firstLine}
 use Rattle.reader.proofs.ScanLaws.{from-le}

@@ -7,8 +7,8 @@ use native.Mathlib.Omega.{arith}
 use borrow.Author.Tests.{not-true, not-false}
 use borrow.Author.Needs.{needs}
 use lib.ListN.{length, getD}
-use Rattle.rules.specs.Text.{isDigit}
-use Rattle.rules.proofs.TokenLaws.{digit-above, digit-most}
+use Rattle.texts.specs.Text.{isDigit}
+use Rattle.texts.proofs.TokenLaws.{digit-above, digit-most}
 use Rattle.reader.proofs.NumberLaws.{not-number-none, not-number-long, not-number-byte}
 use Rattle.reader.proofs.NumberLaws.{Digits, digits-start, digits-small, digits-step, digits-done}
 use Rattle.reader.proofs.number.number_of.Statement.{statement}

@@ -9,8 +9,7 @@ use borrow.Author.Needs.{needs}
 use lib.IntN.{ℤ}
 use mir.Syntax.{w32}
 use mir.Val.{toZ, ofZ}
-use Rattle.rules.specs.Lists.{countIf}
-use Rattle.rules.specs.Reading.{isZero}
+use Rattle.rules.specs.Lists.{countIf, isZero}
 use Rattle.reader.specs.declared.tokens.Step.{Step}
 use Rattle.reader.specs.Words.{valueOf}
 use Rattle.reader.proofs.StepLaws.{var-is, zero-is, value-back}

@@ -5,8 +5,8 @@ use Prim.Native.Nat.{_≤_, _-_}
 use native.Mathlib.Omega.{arith}
 use borrow.Author.Needs.{needs}
 use lib.ListN.{length, take, drop}
-use Rattle.rules.specs.Text.{isBlank}
-use Rattle.rules.specs.Reading.{endsText}
+use Rattle.texts.specs.Text.{isBlank}
+use Rattle.texts.specs.Reading.{endsText}
 use Rattle.reader.specs.Words.{sizes, valueOf}
 use Rattle.reader.specs.Steps.{entryStep}
 use Rattle.reader.proofs.ScanLaws.{from-le}

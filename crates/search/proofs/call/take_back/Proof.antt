@@ -1,7 +1,7 @@
 -- `search::call::take_back` meets its contract. Assumes nothing.
-use mathlib.Core.Path.{_∙_}
-use Rattle.search.proofs.CallLaws.{copied-back, not-model}
 use borrow.Author.Needs.{needs}
+use Rattle.search.proofs.CallLaws.{not-model}
+use Rattle.search.proofs.BoardLaws.{taken-model, taken-undone}
 use Rattle.search.proofs.call.take_back.Statement.{statement}
 use Rattle.search.proofs.call.take_back.Tie as tie
 
@@ -9,21 +9,16 @@ enum-told : tie.Need-enum-told
 enum-told c = search needs
 
 returns : tie.Need-returns
-returns c = search needs
+returns c = taken-model (c .enum-told .given .1)
 
-copy-first-requires : tie.Need-copy-first-requires
-copy-first-requires c κs = search needs
-
-same-length : tie.Need-same-length
-same-length c = search needs
+undo-in-requires : tie.Need-undo-in-requires
+undo-in-requires c κs = search needs
 
 returns-2 : tie.Need-returns-2
 returns-2 c =
-    let copy = c .before .before in
-    let other = copy .before .before in
-    let start = other .before .before .before in
-    copy .copy-first .ensures ∙ copied-back (start .args .outcome) (start .args .values .now) (start .args .saved .now)
-    (not-model (start .args .outcome) (other .match .keys2))
+    let other = c .before .before .before .before .before in
+    let s = other .before in
+    taken-undone (not-model (s .args .outcome) (other .match .keys2)) (c .undo-in .ensures)
 
 pub take-back-spec : {M : Type 1} → statement M
-take-back-spec = tie.close (tie.spec enum-told returns copy-first-requires same-length returns-2)
+take-back-spec = tie.close (tie.spec enum-told returns undo-in-requires returns-2)

@@ -6,8 +6,8 @@ use borrow.Author.Needs.{needs}
 use Rattle.rules.specs.declared.WhyAnswer.{WhyAnswer}
 use Rattle.rules.specs.Numbers.{refusalNumber}
 use Rattle.rules.specs.Meaning.{clauses}
-use Rattle.rules.specs.Printed.{refusedLine}
-use Rattle.rules.specs.WhyPrinted.{whyTextBy}
+use Rattle.texts.specs.Printed.{refusedLine}
+use Rattle.texts.specs.WhyPrinted.{whyTextBy}
 use Rattle.buffers.specs.Put.{Room}
 use Rattle.buffers.proofs.PutLaws.{room-same, put-same}
 use Rattle.why_printed.proofs.answer.put_answer.Statement.{statement}

@@ -3,7 +3,7 @@ use mathlib.Core.Path.{_≡_, sym}
 use native.Mathlib.Omega.{arith}
 use borrow.Author.Needs.{needs}
 use Rattle.rules.specs.Meaning.{clauses}
-use Rattle.rules.specs.WhyPrinted.{whyTextOfReport, whyTextOfList}
+use Rattle.texts.specs.WhyPrinted.{whyTextOfReport, whyTextOfList}
 use Rattle.buffers.proofs.PutLaws.{room-same, put-same}
 use Rattle.why_printed.proofs.AnswerLaws.{asked-text}
 use Rattle.why_printed.proofs.answer.put_asked.Statement.{statement}

@@ -1,7 +1,7 @@
 -- `answer::put_false` meets its contract: the first line, then the model. Assumes nothing.
 use borrow.Author.Needs.{needs}
-use Rattle.rules.specs.ModelLine.{modelLine}
-use Rattle.rules.specs.WhyPrinted.{whyLine}
+use Rattle.texts.specs.ModelLine.{modelLine}
+use Rattle.texts.specs.WhyPrinted.{whyLine}
 use Rattle.buffers.proofs.PutLaws.{room-first, room-then, put-then}
 use Rattle.why_printed.proofs.answer.put_false.Statement.{statement}
 use Rattle.why_printed.proofs.answer.put_false.Tie as tie

@@ -5,9 +5,9 @@ use native.Mathlib.Omega.{arith}
 use lib.Seq.{length-take-le}
 use borrow.Author.Needs.{needs}
 use Rattle.rules.specs.Numbers.{readNumber}
-use Rattle.rules.specs.Printed.{refusedLine}
-use Rattle.rules.specs.WhyPrinted.{whyTextOf}
-use Rattle.rules.proofs.ReadList.{ReadList, read-list, read-refused}
+use Rattle.texts.specs.Printed.{refusedLine}
+use Rattle.texts.specs.WhyPrinted.{whyTextOf}
+use Rattle.texts.proofs.ReadList.{ReadList, read-list, read-refused}
 use Rattle.buffers.proofs.PutLaws.{room-same, put-same}
 use Rattle.why_printed.proofs.AnswerLaws.{list-text, list-ready, refused-text}
 use Rattle.why_printed.proofs.answer.put_text.Statement.{statement}

@@ -7,7 +7,7 @@ use native.Mathlib.Omega.{arith}
 use borrow.Author.Needs.{needs}
 use lib.ListN.{length}
 use Rattle.rules.specs.Meaning.{clauses}
-use Rattle.rules.specs.WhyPrinted.{keptLine}
+use Rattle.texts.specs.WhyPrinted.{keptLine}
 use Rattle.rules.proofs.ClauseLaws.{clauses-le}
 use Rattle.formula.proofs.StartsLaws.{length-startsOf}
 use Rattle.buffers.proofs.PutLaws.{room-same, put-same}

@@ -2,7 +2,7 @@
 use mathlib.Core.Path.{_≡_, sym, _∙_, ap}
 use mathlib.Core.List.{[]}
 use borrow.Author.Needs.{needs}
-use Rattle.rules.specs.WhyPrinted.{clauseLine, lineIf}
+use Rattle.texts.specs.WhyPrinted.{clauseLine, lineIf}
 use Rattle.formula.specs.Starts.{clauseAt}
 use Rattle.buffers.proofs.PutLaws.{room-same, put-same, put-none}
 use Rattle.why_printed.proofs.ReasonLaws.{line-gone, line-kept}

@@ -9,7 +9,7 @@ use lib.Seq.{length-take-le}
 use Rattle.rules.specs.Lists.{isSet, count}
 use Rattle.rules.specs.Meaning.{clauses}
 use Rattle.rules.specs.Why.{marked}
-use Rattle.rules.specs.WhyPrinted.{whyLine, keptLines}
+use Rattle.texts.specs.WhyPrinted.{whyLine, keptLines}
 use Rattle.formula.proofs.StartsLaws.{found-front}
 use Rattle.buffers.specs.Put.{Room}
 use Rattle.buffers.proofs.PutLaws.{room-first, room-then, room-same, put-then, put-same}

@@ -4,8 +4,8 @@ use mathlib.Core.List.{List, [], _∷_, _++_}
 use Prim.Native.Nat.{ℕ}
 use borrow.Author.Needs.{needs}
 use Rattle.rules.specs.Lists.{pieces}
-use Rattle.rules.specs.Plain.{decimal}
-use Rattle.rules.specs.WhyPrinted.{clauseWord, spacedLiteral}
+use Rattle.texts.specs.Plain.{decimal}
+use Rattle.texts.specs.WhyPrinted.{clauseWord, spacedLiteral}
 use Rattle.buffers.specs.Put.{Room}
 use Rattle.buffers.proofs.PutLaws.{room-first, room-then, room-same, put-then, put-same}
 use Rattle.why_printed.proofs.ReasonLaws.{clause-line}

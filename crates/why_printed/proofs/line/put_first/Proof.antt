@@ -3,8 +3,8 @@ use mathlib.Core.Path.{_≡_, sym, _∙_, ap}
 use mathlib.Core.List.{List, [], _∷_, _++_}
 use Prim.Native.Nat.{ℕ}
 use borrow.Author.Needs.{needs}
-use Rattle.rules.specs.Plain.{decimal}
-use Rattle.rules.specs.WhyPrinted.{keptWord, whyLine}
+use Rattle.texts.specs.Plain.{decimal}
+use Rattle.texts.specs.WhyPrinted.{keptWord, whyLine}
 use Rattle.buffers.specs.Put.{Room}
 use Rattle.lines.specs.Lines.{countFields}
 use Rattle.buffers.proofs.PutLaws.{room-first, room-then, room-same, put-then, put-same}

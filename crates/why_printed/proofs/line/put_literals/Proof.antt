@@ -5,7 +5,7 @@ use Prim.Native.Nat.{_-_}
 use lib.IntN.{pos}
 use borrow.Author.Needs.{needs}
 use lib.ListN.{length, getD}
-use Rattle.rules.specs.WhyPrinted.{spacedLiteral}
+use Rattle.texts.specs.WhyPrinted.{spacedLiteral}
 use Rattle.rules.proofs.BitLaws.{toZ-ofZ-at}
 use Rattle.buffers.proofs.PutLaws.{put-same}
 use Rattle.buffers.proofs.PieceLaws.{Piecing, piecing-start, piecing-room, piecing-step, piecing-done}

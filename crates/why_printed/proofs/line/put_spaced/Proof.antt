@@ -4,8 +4,8 @@ use mathlib.Core.Bool.{Bool, not}
 use mathlib.Core.List.{List, [], _∷_, _++_}
 use Prim.Native.Nat.{ℕ}
 use borrow.Author.Needs.{needs}
-use Rattle.rules.specs.ModelLine.{signed}
-use Rattle.rules.specs.WhyPrinted.{spacedLiteral}
+use Rattle.texts.specs.ModelLine.{signed}
+use Rattle.texts.specs.WhyPrinted.{spacedLiteral}
 use Rattle.formula.specs.Literals.{isPositive}
 use Rattle.buffers.specs.Put.{Room}
 use Rattle.buffers.proofs.PutLaws.{room-first, room-then, room-same, put-then, put-same}

@@ -5,7 +5,7 @@ use Prim.Native.Nat.{ℕ}
 use borrow.Author.Needs.{needs}
 use Rattle.rules.specs.declared.RunAnswer.{RunAnswer}
 use Rattle.rules.specs.Numbers.{refusalNumber}
-use Rattle.rules.specs.Printed.{refusedLine}
+use Rattle.texts.specs.Printed.{refusedLine}
 use Rattle.buffers.proofs.PutLaws.{room-same, put-same}
 use Rattle.witness_printed.specs.Pair.{linesOf, textBy, bitsBy, PairReady}
 use Rattle.witness_printed.proofs.answer.put_answer.Statement.{statement}

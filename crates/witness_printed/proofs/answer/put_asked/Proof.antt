@@ -2,7 +2,7 @@
 use mathlib.Core.Path.{_≡_, sym}
 use native.Mathlib.Omega.{arith}
 use borrow.Author.Needs.{needs}
-use Rattle.rules.specs.WitnessPrinted.{witnessAsked, witnessTextOfAsked}
+use Rattle.texts.specs.WitnessPrinted.{witnessAsked, witnessTextOfAsked}
 use Rattle.buffers.proofs.PutLaws.{room-same, put-same}
 use Rattle.witness_printed.specs.Pair.{answerText}
 use Rattle.witness_printed.proofs.AnswerLaws.{asked-text, bits-same}

@@ -6,7 +6,7 @@ use native.Mathlib.Omega.{arith}
 use borrow.Author.Needs.{needs}
 use lib.IntN.{pos}
 use lib.ListN.{length, getD, length-set}
-use Rattle.rules.specs.WitnessPrinted.{literalBit}
+use Rattle.texts.specs.WitnessPrinted.{literalBit}
 use Rattle.rules.proofs.BitLaws.{toZ-ofZ-at}
 use Rattle.buffers.proofs.FillLaws.{Filled, filled-start, filled-step, filled-done}
 use Rattle.witness_printed.proofs.AnswerLaws.{length-bits, bit-at}

@@ -3,7 +3,7 @@ use mathlib.Core.Path.{sym, ap}
 use native.Mathlib.Omega.{arith}
 use borrow.Author.Needs.{needs}
 use lib.ListN.{length}
-use Rattle.rules.specs.ModelLine.{modelLine}
+use Rattle.texts.specs.ModelLine.{modelLine}
 use Rattle.buffers.proofs.PutLaws.{room-same, put-same}
 use Rattle.witness_printed.proofs.AnswerLaws.{length-bits}
 use Rattle.witness_printed.proofs.pair.put_line.Statement.{statement}

@@ -1,0 +1,22 @@
+-- Laws that belong to no one function.
+pub mod KeyLaws
+pub mod BlockLaws
+pub mod HolderLaws
+pub mod CodeLaws
+pub mod CountLaws
+pub mod ChainLaws
+pub mod LinkLaws
+pub mod PutLaws
+pub mod FillLaws
+pub mod IndexLaws
+pub mod BoardLaws
+pub mod FirstLaws
+pub mod ConstraintLaws
+pub mod BeginLaws
+pub mod TrailLaws
+pub mod ShowLaws
+pub mod RoundLaws
+pub mod HotLaws
+pub mod FlipLaws
+pub mod VisitLaws
+pub mod CloseLaws

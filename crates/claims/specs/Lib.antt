@@ -1,0 +1,2 @@
+-- What the steps over a file of claims promise.
+pub mod Steps
