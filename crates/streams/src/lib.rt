@@ -2,7 +2,6 @@
 
 // Standard input as a program reads it, and what it writes. No contract can say what is read or written; how many bytes are counted is proved.
 // A read or a write that fails is told on standard error: a program has no exit status of its own to give.
-ghost use Rattle.std.specs.Prelude.{length};
 ghost use Rattle.io.specs.Counts.{IsPrefixLen};
 
 use std::io::Read;
