@@ -8,14 +8,14 @@ use crate::number::{Number, number_of};
 use crate::scan::{Wanted, find, is_blank};
 
 // V and C.
-#[derive(Drop)]
+#[derive(Clone, Copy)]
 pub struct Header {
     pub vars: u32,
     pub clauses: u32,
 }
 
 // What a line says if it is read as the header.
-#[derive(Drop)]
+#[derive(Clone, Copy)]
 pub enum HeaderLine {
     Malformed,
     Is(Header),

@@ -161,6 +161,7 @@ module _ (vars : ℕ) (F : List Clause) where
         where
           go : (trees : List Tree) → AllHold F (set vs i 1 ∷ set vs i 2 ∷ due) trees → Say ts (due_numbers trees r.claims)
               → ClaimsRead N k (vs ∷ due) (t ∷ ts)
+          go [] a y = elim a [ ]
           go (off ∷ []) (one_tree h a) y = elim a [ ]
           go (off ∷ on ∷ trees) (one_tree h (one_tree j a)) y =
               record {
@@ -181,6 +182,7 @@ module _ (vars : ℕ) (F : List Clause) where
       read_claim {N} {k} {l} w u r = go r.trees r.hold r.say
         where
           go : (trees : List Tree) → AllHold F (against vars l ∷ []) trees → Say ts (due_numbers trees r.claims) → ClaimsRead N (suc k) [] (t ∷ ts)
+          go [] a y = elim a [ ]
           go (tree ∷ other ∷ trees) (one_tree h a) y = elim a [ ]
           go (tree ∷ []) (one_tree h no_tree) y =
               let c : Claim = record { literal = l; tree = tree } in
@@ -199,6 +201,7 @@ module _ (vars : ℕ) (F : List Clause) where
       read_count {N} {vs} w s r = go r.trees r.hold r.say
         where
           go : (trees : List Tree) → AllHold F [] trees → Say ts (due_numbers trees r.claims) → LiteralsRead 0 vs (t ∷ ts)
+          go (_ ∷ _) a y = elim a [ ]
           go [] no_tree y =
               record {
                 values = [];
@@ -257,6 +260,7 @@ module _ (vars : ℕ) (F : List Clause) where
       → ((c : Claim) → In c cs → Claimed vars F c) → Say ts (due_numbers trees cs) → Passes vars F (claims_due n (length cs) due) ts (claims_due n zero [])
   passes_due n [] [] no_tree h nothing = passed
   passes_due n [] (c ∷ cs) no_tree h y = elim y [ ]
+  passes_due n (t ∷ ts) [] no_tree h y = elim y [ ]
   passes_due n [] cs (one_tree (by_end e) a) h y = elim y [ ]
   passes_due n [] cs (one_tree (by_split z j k) a) h y = elim y [ ]
   passes_due n (t ∷ ts) (c ∷ cs) no_tree h (one_more_lem w y) =
@@ -279,6 +283,8 @@ module _ (vars : ℕ) (F : List Clause) where
     passes_literals : (from : ℕ) (vs ms : Values) (ts : List Piece) → Total ms → satisfies (vs ++ ms) F ≡ true
         → Say ts (literals_from (length vs) ms ++ pos (length cs) ∷ claims_numbers cs)
         → Passes vars F (literals_due from (length ms) vs) ts (claims_due (length cs) zero [])
+    passes_literals from vs [] [] a s y = elim y [ ]
+    passes_literals from vs (b ∷ ms) [] a s y = elim y [ ]
     passes_literals from vs [] (t ∷ ts) a s (one_more_lem w y) =
         pass w claim_count (kept_claims (length cs) (length cs) []) (passes_due (length cs) ts cs no_tree h y)
     passes_literals from vs (b ∷ ms) (t ∷ ts) a s (one_more_lem w y) =
@@ -291,6 +297,7 @@ module _ (vars : ℕ) (F : List Clause) where
         (subst (λ (i : ℕ). Say ts (literals_from i ms ++ pos (length cs) ∷ claims_numbers cs)) (sym (length_snoc vs b)) y)))
 
     passes_file : (m : Values) (ts : List Piece) → Model vars F m → Say ts (file_numbers m cs) → Passes vars F model_due ts (claims_due (length cs) zero [])
+    passes_file m [] k y = elim y [ ]
     passes_file m (t ∷ ts) k (one_more_lem w y) =
         pass (subst (λ (x : ℕ). Token t.bytes (pos x)) k.len w) model_count
         (subst (λ (x : ℕ). Kept (literals_due t.at x [])) k.len (kept_literals t.at [] m k.all_true))

@@ -210,6 +210,7 @@ whole_of_text entries sizes {text} {ss} {c} {es} h k g =
     }
   where
     go : (ts : List Piece) → Say ts (file_numbers ss c es) → Passes groups_due ts (entries_due ss c es)
+    go [] y = elim y [ ]
     go (t ∷ ts) (one_more_lem w y) =
         pass w (group_count (between {n = length ss} (omega arith) g.sizes_fit.groups_fit))
         (passes_sizes g.clauses_fit g.exactly [] ss y g.sizes_fit.each_fits (omega (arith, g.sizes_fit.vars_fit)) g.up_to)

@@ -98,11 +98,11 @@ module _ {s : Sizes} where
   passes_of_say : {k n : ℕ} {ts : List Piece} {es : List ℤ} → Say ts es
       → ((front : List ℤ) (l : ℤ) (back : List ℤ) → es ≡ front ++ l ∷ back → k + count is_zero front < s.clauses)
       → ((l : ℤ) → In l es → var_of l ≤ s.vars) → n + length es ≤ max_entries → Passes s k n ts es
-  passes_of_say nothing f u m = passed
+  passes_of_say {k} {n} nothing f u m = passed
   passes_of_say {k} {n} (one_more_lem {l} {es} w h) f u m =
       let fits : Fits s k n l = record { not_behind = omega (arith, f [] l es refl); up_to = u l (Memᴰ.head refl); most = omega arith } in
       pass w fits
-      (passes_of_say h
+      (passes_of_say {k = count_if (is_zero l) k} {n = suc n} h
       (λ front x back e. omega (arith, count_if_add (is_zero l) k (count is_zero front), f (l ∷ front) x back (ap (λ (xs : List ℤ). l ∷ xs) e)))
       (λ x i. u x (Memᴰ.tail i))
       (omega arith))

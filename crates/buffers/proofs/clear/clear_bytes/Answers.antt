@@ -1,0 +1,30 @@
+-- `buffers::clear::clear_bytes` meets its contract. The invariant of its loop: the front is filled with zeros. Assumes nothing.
+use mathlib.Core.Path.{◌≡◌, refl, sym, ◌∙◌}
+use Prim.Native.Nat.{ℕ, ◌-◌}
+use native.Mathlib.Omega.{arith}
+use borrow.Author.Rules.{rules}
+use lib.ListN.{length, length-set, replicate, length-replicate, get_or-replicate}
+use Rattle.buffers.proofs.FillLaws.{Filled, filled_start, filled_step, filled_done}
+use Rattle.buffers.proofs.clear.clear_bytes.Goals as goal
+
+pub loop-i-init : goal.loop-i-init
+loop-i-init c =
+    (refl, filled_start _ _ (sym (length-replicate {A = ℕ} _ 0)))
+
+pub loop-i-smaller : goal.loop-i-smaller
+loop-i-smaller c =
+    simp length-set (omega arith)
+
+pub loop-i-preserved : goal.loop-i-preserved
+loop-i-preserved c =
+    let l = c.loop-i in
+    let s = c.args.bytes.now in
+    (length-set l.bytes l.i 0 ∙ l.invariant.0, filled_step 0 0 l.invariant.1 c.loop-i-test.true (get_or-replicate (length s) l.i 0 0 (omega arith)))
+
+pub shape_of-bytes : goal.shape_of-bytes
+shape_of-bytes c =
+    c.loop-i.invariant.0
+
+pub returns : goal.returns
+returns c =
+    filled_done c.loop-i.invariant.1 c.loop-i-test.false
