@@ -8,7 +8,7 @@ use crate::number::{Number, number_of};
 use crate::scan::{Wanted, find, is_blank};
 
 // V and C.
-#[derive(Drop)]
+#[derive(Clone, Copy)]
 pub struct Header {
     pub vars: u32,
     pub clauses: u32,

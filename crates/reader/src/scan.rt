@@ -4,7 +4,7 @@ ghost use Rattle.texts.specs.Text.{is_gap, is_blank};
 ghost use Rattle.reader.specs.Scan.{is_wanted, first_from};
 
 // What a search is for: LF; a space or tab, or a byte that is none; a blank, or a byte that is none.
-#[derive(Drop)]
+#[derive(Clone, Copy)]
 pub enum Wanted {
     Lf,
     Gap,

@@ -6,7 +6,7 @@ ghost use Rattle.reader.specs.Words.{token_of, signed_token, max_number, value_o
 use crate::number::{Number, number_of};
 
 // A number with a minus or without. 0 closes a clause; any other number is a literal's variable.
-#[derive(Drop)]
+#[derive(Clone, Copy)]
 pub struct Entry {
     pub minus: bool,
     pub number: u32,

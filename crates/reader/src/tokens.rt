@@ -14,7 +14,7 @@ use crate::token::{Entry, Token, token_of, value_of};
 use rules::{MAX_ENTRIES, ReadAnswer, Reading};
 
 // Where the reading stands: its next byte, the clauses complete and the entries stored.
-#[derive(Drop)]
+#[derive(Clone, Copy)]
 pub struct Cursor {
     pub at: usize,
     pub clauses: u32,
