@@ -6,17 +6,13 @@ use native.Mathlib.Omega.{arith}
 use lib.ListN.{get_or}
 use Rattle.texts.specs.Text.{is_digit}
 use Rattle.texts.proofs.TokenLaws.{digit_above, digit_most}
-use Rattle.reader.proofs.NumberLaws.{not_number_none, not_number_long, not_number_byte}
+use Rattle.reader.proofs.NumberLaws.{not_number_none, not_number_byte}
 use Rattle.reader.proofs.NumberLaws.{digits_start, digits_small, digits_step, digits_done}
 use Rattle.reader.proofs.number.number_of.Goals as goal
 
 pub returns-then-word-eq0 : goal.returns-then-word-eq0
 returns-then-word-eq0 c =
     not_number_none c.args.word.now c.if-word-eq0.true
-
-pub returns-then-word-gt9 : goal.returns-then-word-gt9
-returns-then-word-gt9 c =
-    not_number_long c.args.word.now c.if-word-gt9.true
 
 pub loop-i-init : goal.loop-i-init
 loop-i-init c =
@@ -32,7 +28,7 @@ pub overflow_mul-n : goal.overflow_mul-n
 overflow_mul-n c =
     let small : c.loop-i.n < 100000000 =
     let l = c.loop-i in
-    digits_small _ l.n l.i l.invariant (omega (arith, c.loop-i-test.true, c.if-word-gt9.false)) in
+    digits_small _ l.n l.i l.invariant (omega arith) in
     omega (arith, small)
 
 pub overflow_sub-n : goal.overflow_sub-n
@@ -53,7 +49,7 @@ overflow_add-n c =
     let high : get_or c.args.word.now c.loop-i.i 0 ≤ 57 = digit_most _ digit in
     let small : c.loop-i.n < 100000000 =
     let l = c.loop-i in
-    digits_small _ l.n l.i l.invariant (omega (arith, c.loop-i-test.true, c.if-word-gt9.false)) in
+    digits_small _ l.n l.i l.invariant (omega arith) in
     omega (arith, small, high)
 
 pub loop-i-preserved : goal.loop-i-preserved
@@ -65,4 +61,4 @@ loop-i-preserved c =
 pub returns : goal.returns
 returns c =
     let l = c.loop-i in
-    digits_done c.args.word.now l.n l.i l.invariant c.loop-i-test.false c.if-word-eq0.false c.if-word-gt9.false
+    digits_done c.args.word.now l.n l.i l.invariant c.loop-i-test.false c.if-word-eq0.false (omega arith)
