@@ -4,7 +4,7 @@ ghost use Rattle.board.specs.Closings.{BoardOver, CloseDone};
 use crate::round::{RoundEnd, round};
 
 // What closing ends with, a clash or the closed set in the lent values, and how many rounds it took.
-#[derive(Drop)]
+#[derive(Clone, Copy)]
 pub enum Closing {
     Clash(u32),
     Closed(u32),

@@ -9,7 +9,7 @@ use formula::view::clause_in;
 use rules::ClauseNo;
 
 // What a round ends with: a false clause, or the number of literals that it set.
-#[derive(Drop)]
+#[derive(Clone, Copy)]
 pub enum RoundEnd {
     AtFalse,
     UnderWay(u32),

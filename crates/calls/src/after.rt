@@ -10,7 +10,7 @@ use steps::row::{Row, put_row};
 
 // How far a run has come, beside the statuses and the log: the chunk size that is next, the candidates that remain, calls begun, tries,
 // and how many variables are free and forced.
-#[derive(Drop)]
+#[derive(Clone, Copy)]
 pub struct Tally {
     pub size: u32,
     pub candidates: u32,
@@ -21,7 +21,7 @@ pub struct Tally {
 }
 
 // A call that has ended: the chunk that it took, and the tries spent by then.
-#[derive(Drop)]
+#[derive(Clone, Copy)]
 pub struct Made {
     pub chunk: u32,
     pub spent: u32,

@@ -14,7 +14,7 @@ use search::whole::{call_in, whole_call};
 use steps::records::put_records;
 
 // How many tries the run may take, and how many candidates a call.
-#[derive(Drop)]
+#[derive(Clone, Copy)]
 pub struct Limits {
     pub budget: u32,
     pub chunk: u32,
@@ -98,7 +98,7 @@ fn chunk_in(
 }
 
 // What comes of a call: the run goes on, or it ends there and returns.
-#[derive(Drop)]
+#[derive(Clone, Copy)]
 pub enum Next {
     GoesOn(Tally),
     Ends(Report),

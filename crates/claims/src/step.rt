@@ -6,14 +6,14 @@ use reader::token::Entry;
 use rules::ClaimsAnswer;
 
 // Where a step ends: the judgement goes on at a place, or has its answer.
-#[derive(Drop)]
+#[derive(Clone, Copy)]
 pub enum Step {
     On(usize),
     Stop(ClaimsAnswer),
 }
 
 // The number that is due, from its first byte up to the byte behind it; or the answer.
-#[derive(Drop)]
+#[derive(Clone, Copy)]
 pub enum Number {
     Is(usize, usize, Entry),
     Stop(ClaimsAnswer),

@@ -8,7 +8,7 @@ use reader::token::Entry;
 use rules::ClaimsAnswer;
 
 // What is due: the model's count, which is V; a literal of a variable; the number of claims; a claim, whose variable is at most V.
-#[derive(Drop)]
+#[derive(Clone, Copy)]
 pub enum Due {
     Count(u32),
     Literal(u32),

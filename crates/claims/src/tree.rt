@@ -74,7 +74,7 @@ fn is_unset_at(values: &[u8], i: usize) -> bool
 }
 
 // What a tree begins with: an end, and the place behind it; a split, with the index of its variable, and the place behind it; or the answer.
-#[derive(Drop)]
+#[derive(Clone, Copy)]
 pub enum Node {
     End(usize),
     Split(usize, usize),

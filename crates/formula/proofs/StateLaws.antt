@@ -8,7 +8,7 @@
 --   state_of_true, state_of_none, state_of_first     the state of a clause that has a true literal, no unset one, a first unset one
 --
 -- Assumes nothing.
-use mathlib.Core.Path.{◌≡◌, refl, sym, ◌∙◌, ap}
+use mathlib.Core.Path.{◌≡◌, refl, sym, ◌∙◌, ap, subst}
 use mathlib.Core.Logic.{◌≢◌}
 use mathlib.Core.Bool.{Bool, true, false, not, ◌&&◌, ◌||◌}
 use mathlib.Core.List.{List, [], ◌∷◌}
@@ -93,4 +93,6 @@ module _ (vs : Values) (cl : Clause) where
     where
       go : (us : List ℤ) → first_in us ≡ Literal l → state_by false us ≡ unit_if (all (eqz l.0) us) l.0
       go [] e = apart cc
-      go (k ∷ us) e = let q : l ≡ literal k = cc in rw (q, eqz_refl k)
+      go (k ∷ us) e =
+          let q : l ≡ literal k = cc in
+          subst (λ (x : Lit). state_by false (k ∷ us) ≡ unit_if (all (eqz x.0) (k ∷ us)) x.0) (sym q) (rw (eqz_refl k))

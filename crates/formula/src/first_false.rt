@@ -8,7 +8,7 @@ use crate::view::clause_in;
 use rules::ClauseNo;
 
 // What is found.
-#[derive(Drop)]
+#[derive(Clone, Copy)]
 pub enum FirstFalse {
     Nothing,
     Clause(ClauseNo),

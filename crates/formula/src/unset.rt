@@ -7,7 +7,7 @@ use crate::value::is_unset;
 use rules::Lit;
 
 // What a search for a literal finds.
-#[derive(Drop)]
+#[derive(Clone, Copy)]
 pub enum Found {
     Nothing,
     Literal(Lit),

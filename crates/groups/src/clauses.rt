@@ -9,7 +9,7 @@ use reader::token::value_of;
 use rules::{GroupsAnswer, MAX_ENTRIES};
 
 // A refusal, or how many entries the whole list has.
-#[derive(Drop)]
+#[derive(Clone, Copy)]
 pub enum Ended {
     Refused(GroupsAnswer),
     With(usize),

@@ -10,7 +10,7 @@ use reader::token::Entry;
 use rules::{GroupsAnswer, MAX_CLAUSES, MAX_VARS};
 
 // A number that fits, or why it does not.
-#[derive(Drop)]
+#[derive(Clone, Copy)]
 pub enum Verdict {
     Fits,
     Refused(GroupsAnswer),

@@ -7,7 +7,7 @@ use crate::step::{Due, Step, next_step};
 use rules::GroupsAnswer;
 
 // A refusal, or a number up to the byte behind it.
-#[derive(Drop)]
+#[derive(Clone, Copy)]
 pub enum Counted {
     Refused(GroupsAnswer),
     Is(usize, u32),

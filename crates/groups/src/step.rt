@@ -12,7 +12,7 @@ use rules::GroupsAnswer;
 
 // What is due: the number of groups; a size, with so many variables before it; the number of clauses; an entry, with the number of variables, of
 // clauses, and of those that are complete.
-#[derive(Drop)]
+#[derive(Clone, Copy)]
 pub enum Due {
     Groups,
     Size(u32),
@@ -21,7 +21,7 @@ pub enum Due {
 }
 
 // What comes next: a refusal, the end of text, or a number that fits, up to the byte behind it.
-#[derive(Drop)]
+#[derive(Clone, Copy)]
 pub enum Step {
     Refused(GroupsAnswer),
     TextEnd,

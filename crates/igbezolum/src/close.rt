@@ -8,7 +8,7 @@ use rules::numbers::{close_number, close_place};
 
 // What is returned, in numbers.
 #[repr(C)]
-#[derive(Drop)]
+#[derive(Clone, Copy)]
 pub struct IgbClosing {
     pub answer: u32,
     pub place: u32,

@@ -8,7 +8,7 @@ use rules::numbers::{groups_number, groups_place};
 
 // What a reading of groups returns, in numbers.
 #[repr(C)]
-#[derive(Drop)]
+#[derive(Clone, Copy)]
 pub struct IgbGroups {
     pub answer: u32,
     pub place: u32,

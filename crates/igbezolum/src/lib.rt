@@ -20,7 +20,7 @@ use rules::numbers::{read_number, read_place, run_number, run_place};
 
 // What a reading returns, in numbers.
 #[repr(C)]
-#[derive(Drop)]
+#[derive(Clone, Copy)]
 pub struct IgbReading {
     pub answer: u32,
     pub place: u32,
@@ -31,7 +31,7 @@ pub struct IgbReading {
 
 // What a run returns, in numbers.
 #[repr(C)]
-#[derive(Drop)]
+#[derive(Clone, Copy)]
 pub struct IgbReport {
     pub answer: u32,
     pub place: u32,

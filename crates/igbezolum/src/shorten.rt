@@ -7,7 +7,7 @@ use rules::numbers::{run_number, run_place};
 
 // What is returned, in numbers: those of the run, and the length of the text.
 #[repr(C)]
-#[derive(Drop)]
+#[derive(Clone, Copy)]
 pub struct IgbShorter {
     pub answer: u32,
     pub place: u32,

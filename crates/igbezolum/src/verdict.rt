@@ -8,7 +8,7 @@ use rules::numbers::{claims_number, claims_place};
 
 // What is returned, in numbers.
 #[repr(C)]
-#[derive(Drop)]
+#[derive(Clone, Copy)]
 pub struct IgbVerdict {
     pub answer: u32,
     pub place: u32,

@@ -9,7 +9,7 @@ use rules::numbers::{why_number, why_place};
 
 // What is returned, in numbers.
 #[repr(C)]
-#[derive(Drop)]
+#[derive(Clone, Copy)]
 pub struct IgbWhyReport {
     pub answer: u32,
     pub place: u32,

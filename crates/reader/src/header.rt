@@ -15,7 +15,7 @@ pub struct Header {
 }
 
 // What a line says if it is read as the header.
-#[derive(Drop)]
+#[derive(Clone, Copy)]
 pub enum HeaderLine {
     Malformed,
     Is(Header),

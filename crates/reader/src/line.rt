@@ -6,7 +6,7 @@ ghost use Rattle.reader.specs.Lines.{skipped, first_line};
 use crate::scan::{Wanted, find};
 
 // The line that has to be the header: its first byte, and the LF or the end of text behind it.
-#[derive(Drop)]
+#[derive(Clone, Copy)]
 pub enum Line {
     Missing,
     At(usize, usize),

@@ -5,7 +5,7 @@ use crate::scan::{Wanted, find};
 use crate::token::{Entry, Token, token_of};
 
 // What stands next: nothing, a malformed token at a place, or a number from its first byte up to the byte behind it.
-#[derive(Drop)]
+#[derive(Clone, Copy)]
 pub enum Found {
     TextEnd,
     Malformed(usize),

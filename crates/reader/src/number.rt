@@ -10,7 +10,7 @@ fn is_digit(b: u8) -> bool
 }
 
 // What a word says if it is read as a numeral.
-#[derive(Drop)]
+#[derive(Clone, Copy)]
 pub enum Number {
     Malformed,
     Is(u32),

@@ -13,7 +13,7 @@ pub struct Entry {
 }
 
 // What a word says if it is read as a token.
-#[derive(Drop)]
+#[derive(Clone, Copy)]
 pub enum Token {
     Malformed,
     Is(Entry),

@@ -22,7 +22,7 @@ pub struct Cursor {
 }
 
 // What comes next.
-#[derive(Drop)]
+#[derive(Clone, Copy)]
 pub enum Step {
     Refused(ReadAnswer),
     TextEnd,

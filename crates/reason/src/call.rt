@@ -16,7 +16,7 @@ use search::meter::Meter;
 use search::whole::whole_call;
 
 // What a question asks next: its literal, a number of clauses or the index of one, and the meter so far.
-#[derive(Drop)]
+#[derive(Clone, Copy)]
 pub struct Asking {
     pub literal: Lit,
     pub count: usize,

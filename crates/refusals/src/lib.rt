@@ -10,7 +10,7 @@ use rules::Refusal;
 pub mod held;
 
 // What the rules say of a list.
-#[derive(Drop)]
+#[derive(Clone, Copy)]
 pub enum Checked {
     Accepted,
     Refused(Refusal),

@@ -1,17 +1,19 @@
 // The types that the definitions in specs/ name, and the numbers of docs/RULES.md. Of functions only the numbers of the answers
 // are here: the crates above compute what specs/ defines, and theorems about it stand in proofs/.
+#![tactic(auto)]
+
 pub mod numbers;
 
 // A variable's number, from 1.
-#[derive(Drop)]
+#[derive(Clone, Copy)]
 pub struct Var(pub u32);
 
 // A literal: a variable with a sign. It is never 0.
-#[derive(Drop)]
+#[derive(Clone, Copy)]
 pub struct Lit(pub i32);
 
 // A clause's number, from 1.
-#[derive(Drop)]
+#[derive(Clone, Copy)]
 pub struct ClauseNo(pub u32);
 
 // "Sizes".
@@ -63,7 +65,7 @@ pub const MAX_GROUPS_TABLE: usize = 4096;
 pub const MAX_CLAIMS_LINE: usize = 64;
 
 // What a clause is under some values ("Closing").
-#[derive(Drop)]
+#[derive(Clone, Copy)]
 pub enum ClauseState {
     // It has no true literal and no unset one.
     False,
@@ -76,14 +78,14 @@ pub enum ClauseState {
 }
 
 // What the flip test answers ("Run"): the variable may be flipped alone, or the first clause, in order, that this would make false.
-#[derive(Drop)]
+#[derive(Clone, Copy)]
 pub enum Flip {
     May,
     HeldBy(ClauseNo),
 }
 
 // What a call of the search ends with ("What comes back": 1, 2, 3).
-#[derive(Drop)]
+#[derive(Clone, Copy)]
 pub enum Outcome {
     Model,
     NoModel,
@@ -91,7 +93,7 @@ pub enum Outcome {
 }
 
 // The way a variable was settled ("What comes back": 0, 1, 2, 3).
-#[derive(Drop)]
+#[derive(Clone, Copy)]
 pub enum Way {
     Open,
     Compare,
@@ -100,7 +102,7 @@ pub enum Way {
 }
 
 // What a run has to say of one variable: its status, the call that settled it, and the way.
-#[derive(Drop)]
+#[derive(Clone, Copy)]
 pub struct Record {
     pub status: u8,
     pub call: u32,
@@ -108,7 +110,7 @@ pub struct Record {
 }
 
 // The answer of a reading, with its place where that is not fixed. Its number and place are read_number and readPlace.
-#[derive(Drop)]
+#[derive(Clone, Copy)]
 pub enum ReadAnswer {
     Accepted,
     ShortBuffer,
@@ -123,7 +125,7 @@ pub enum ReadAnswer {
 }
 
 // What a reading returns.
-#[derive(Drop)]
+#[derive(Clone, Copy)]
 pub struct Reading {
     pub answer: ReadAnswer,
     pub vars: u32,
@@ -132,7 +134,7 @@ pub struct Reading {
 }
 
 // The answer of a reading of groups, with its place where that is not fixed. Its number and place are groups_number and groups_place.
-#[derive(Drop)]
+#[derive(Clone, Copy)]
 pub enum GroupsAnswer {
     Accepted,
     ShortBuffer,
@@ -147,7 +149,7 @@ pub enum GroupsAnswer {
 }
 
 // What a reading of groups returns: variables, clauses and entries are those of the expanded list.
-#[derive(Drop)]
+#[derive(Clone, Copy)]
 pub struct GroupsReading {
     pub answer: GroupsAnswer,
     pub groups: u32,
@@ -158,7 +160,7 @@ pub struct GroupsReading {
 
 // Why an entry list is not taken, whoever is given one, with the place where that is not fixed. Its number and place are refusal_number
 // and refusal_place.
-#[derive(Drop)]
+#[derive(Clone, Copy)]
 pub enum Refusal {
     ShortBuffer,
     BadLimits,
@@ -170,7 +172,7 @@ pub enum Refusal {
 }
 
 // The answer of a run. Its number and place are run_number and run_place.
-#[derive(Drop)]
+#[derive(Clone, Copy)]
 pub enum RunAnswer {
     Settled,
     NoModel,
@@ -179,7 +181,7 @@ pub enum RunAnswer {
 }
 
 // What a run returns.
-#[derive(Drop)]
+#[derive(Clone, Copy)]
 pub struct Report {
     pub answer: RunAnswer,
     pub calls: u32,
@@ -189,7 +191,7 @@ pub struct Report {
 }
 
 // The answer to the question why a literal is forced. Its number and place are why_number and why_place.
-#[derive(Drop)]
+#[derive(Clone, Copy)]
 pub enum WhyAnswer {
     // A set of clauses that alone forces the literal is marked.
     Kept,
@@ -201,7 +203,7 @@ pub enum WhyAnswer {
 }
 
 // What that question returns.
-#[derive(Drop)]
+#[derive(Clone, Copy)]
 pub struct WhyReport {
     pub answer: WhyAnswer,
     pub calls: u32,
@@ -209,7 +211,7 @@ pub struct WhyReport {
 }
 
 // The answer of a closing. Its number and place are close_number and close_place.
-#[derive(Drop)]
+#[derive(Clone, Copy)]
 pub enum CloseAnswer {
     // The closed set is written.
     Closed,
@@ -219,7 +221,7 @@ pub enum CloseAnswer {
 }
 
 // What a closing returns: its rounds, and how many variables it set.
-#[derive(Drop)]
+#[derive(Clone, Copy)]
 pub struct CloseReport {
     pub answer: CloseAnswer,
     pub rounds: u32,
@@ -227,14 +229,14 @@ pub struct CloseReport {
 }
 
 // What the shorter file returns: the run's numbers, and how many bytes of it are written.
-#[derive(Drop)]
+#[derive(Clone, Copy)]
 pub struct ShorterReport {
     pub run: Report,
     pub length: usize,
 }
 
 // The answer to a file of claims. Its number and place are claims_number and claims_place.
-#[derive(Drop)]
+#[derive(Clone, Copy)]
 pub enum ClaimsAnswer {
     // The model is one, and so many claims hold.
     Accepted(u32),

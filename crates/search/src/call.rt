@@ -15,7 +15,7 @@ use board::literal::literal_of;
 use rules::{Outcome, Var};
 
 // What a call ends with, and the meter as it then is. The model's values are in the lent buffer.
-#[derive(Drop)]
+#[derive(Clone, Copy)]
 pub struct CallEnd {
     pub outcome: Outcome,
     pub meter: Meter,

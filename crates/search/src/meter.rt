@@ -4,14 +4,14 @@ ghost use Rattle.std.specs.Prelude.{◌≡◌};
 ghost use Rattle.search.specs.Meters.{asked_of, after_try};
 
 // The budget, and how many tries are spent.
-#[derive(Drop)]
+#[derive(Clone, Copy)]
 pub struct Meter {
     pub budget: u32,
     pub spent: u32,
 }
 
 // What a meter answers that is asked for a try: the meter behind it, or that the budget is spent.
-#[derive(Drop)]
+#[derive(Clone, Copy)]
 pub enum Asked {
     Given(Meter),
     Spent,

@@ -8,7 +8,7 @@ ghost use Rattle.search.specs.Boards.{SetBelow};
 use rules::Var;
 
 // What is tried next: a variable, unless all are set.
-#[derive(Drop)]
+#[derive(Clone, Copy)]
 pub enum Choice {
     AllSet,
     Unset(Var),

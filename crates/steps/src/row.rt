@@ -3,7 +3,7 @@ ghost use Rattle.std.specs.Prelude.{◌≡◌};
 ghost use Rattle.steps.specs.Row.{RowOver, with_row};
 
 // What a row says of a call: what it ended with, the chunk taken, what compare and flip dropped, and the tries spent by then.
-#[derive(Drop)]
+#[derive(Clone, Copy)]
 pub struct Row {
     pub outcome: rules::Outcome,
     pub chunk: u32,
