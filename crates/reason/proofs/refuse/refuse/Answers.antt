@@ -22,7 +22,7 @@ returns-in-Refused c =
     let said : c.refuse-checked.result ≡ found (first_of list) =
         let a = c.args in
     c.refuse-checked.ensures ∙
-    ap (λ (b : Bool). found (first_of (taking_rules (ltb max_vars a.vars) b a.entries.now a.vars []))) c.is-short.ensures in
+    ap (λ (b : Bool). found (first_of (taking_rules (ltb max_vars a.vars) b a.entries.now a.vars []))) c.is_short-short.ensures in
     first_refused list own (sym c.in-Refused.is ∙ said)
 
 pub returns-in-Accepted : goal.returns-in-Accepted
@@ -34,5 +34,5 @@ returns-in-Accepted c =
     let said : c.refuse-checked.result ≡ found (first_of list) =
         let a = c.args in
     c.refuse-checked.ensures ∙
-    ap (λ (b : Bool). found (first_of (taking_rules (ltb max_vars a.vars) b a.entries.now a.vars []))) c.is-short.ensures in
+    ap (λ (b : Bool). found (first_of (taking_rules (ltb max_vars a.vars) b a.entries.now a.vars []))) c.is_short-short.ensures in
     c.refuse_literal.ensures ∙ first_accepted list own (sym c.in-Accepted.is ∙ said)

@@ -61,7 +61,7 @@ loop-n-preserved c =
       rw (add-one c.loop-n.calls)
           (visiting_step (visiting_at c.loop-n-test.true c.loop-n.invariant.4)
           (rw c.loop-n.invariant.3 at c.visit-end.ensures)
-          (not_stopped c.visit-end.result.outcome c.in_default.keys2)),
+          c.in_default.not-Stopped),
     )
 
 pub shape_of-kept : goal.shape_of-kept
