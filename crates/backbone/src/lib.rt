@@ -1,4 +1,6 @@
 // The backbone run: which literals every model contains, which variables are free (docs/RULES.md, "Run").
+#![tactic(auto)]
+
 ghost use Rattle.rules.specs.Answer.{given, buffers, Runs};
 
 pub mod first;

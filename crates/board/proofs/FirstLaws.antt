@@ -86,8 +86,10 @@ module _ {count : ℕ} {before : List ℕ} (a : Blocks count before) where
             → get_or (set hot (i / 32) (get_or hot (i / 32) 0 + 1)) b 0 ≡ hot_in b 0 (replicate (suc i) 0)
         go b g true e =
             let at : i / 32 ≡ b = eqb-true (i / 32) b e in
-            rw (← at, get_or-set_same hot (i / 32) (get_or hot (i / 32) 0 + 1) 0 heating_in)
-            (omega (arith, w.counted (i / 32) heating_in, rw (eq-eqb (i / 32) (i / 32) refl) at (more (i / 32))))
+            let here : hot_in (i / 32) 0 (replicate (suc i) 0) ≡ get_or hot (i / 32) 0 + 1 =
+            omega (arith, w.counted (i / 32) heating_in, rw (eq-eqb (i / 32) (i / 32) refl) at (more (i / 32))) in
+            subst (λ (x : ℕ). get_or (set hot (i / 32) (get_or hot (i / 32) 0 + 1)) x 0 ≡ hot_in x 0 (replicate (suc i) 0)) at
+            (get_or-set_same hot (i / 32) (get_or hot (i / 32) 0 + 1) 0 heating_in ∙ sym here)
         go b g false e =
             rw (get_or-set_other hot (i / 32) b (get_or hot (i / 32) 0 + 1) 0 (λ s. eqb-false (i / 32) b e (sym s)))
             (omega (arith, w.counted b g, rw e at (more b)))

@@ -1,4 +1,6 @@
 // Claims of other tools, docs/RULES.md, "Claims": a file with a model and trees is checked against a formula, from left to right.
+#![tactic(auto)]
+
 ghost use Rattle.std.specs.Prelude.{length};
 ghost use Rattle.rules.specs.Meaning.{clauses};
 ghost use Rattle.texts.specs.ClaimsReading.{claims_given, Checks};

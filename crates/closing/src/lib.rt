@@ -1,4 +1,6 @@
 // What follows at once (docs/RULES.md, "What follows at once"): the closing of the formula and the held literals, from nothing set.
+#![tactic(auto)]
+
 ghost use Rattle.std.specs.Prelude.{◌≤◌, length};
 ghost use Rattle.rules.specs.Numbers.{max_vars};
 ghost use Rattle.rules.specs.Held.{list_with};

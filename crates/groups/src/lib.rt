@@ -1,5 +1,7 @@
 // Groups: docs/RULES.md, "Groups". A file of groups, each by its number of values, and of clauses: its numbers are read from left to right and
 // judged, and the clauses of groups are stored in front of the file's own ones. The tokens are the reader's.
+#![tactic(auto)]
+
 mod clauses;
 mod count;
 mod expand;

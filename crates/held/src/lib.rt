@@ -1,4 +1,6 @@
 // An entry list with the held literals behind it (docs/RULES.md, "Choices already made"): one list, made once a run.
+#![tactic(auto)]
+
 ghost use Rattle.rules.specs.Held.{held_entries, list_with};
 ghost use Rattle.held.specs.Stored.{Fits, Stored, ListPut};
 

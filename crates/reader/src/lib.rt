@@ -1,5 +1,7 @@
 // Text to entries: docs/RULES.md, "The text" and the reader's part of "What comes back". From front to back, with no store but
 // the buffer that is lent: a line is found and judged, then token by token is found, judged and stored.
+#![tactic(auto)]
+
 mod answer;
 mod header;
 mod line;

@@ -17,6 +17,7 @@ pub enum Number {
 }
 
 // Rules out: ten digits as a number; 0 for an empty word.
+#[tactic(auto, using(crate::proofs::NumberLaws::not_number_long))]
 pub fn number_of(word: &[u8]) -> Number
     ensures { result ≡ number_of word.now }
 {

@@ -1,4 +1,6 @@
 // Why a literal is forced (docs/RULES.md, "Why"): a set of clauses that alone forces it, none of which can go.
+#![tactic(auto)]
+
 ghost use Rattle.rules.specs.Why.{why_given, Explains};
 
 mod ask;

@@ -1,5 +1,7 @@
 // What is refused of an entry list and of held literals, in the order 10, 1, 11, 12, 15, 13 (docs/RULES.md, "What comes back"). 10 and 1 are of
 // whoever takes them, 11 and 12 the list's own, 15 and 13 the held literals'. Nobody has to check any first.
+#![tactic(auto)]
+
 ghost use Rattle.std.specs.Prelude.{◌≡◌};
 ghost use Rattle.rules.specs.Lists.{nth_index, first_of, is_zero};
 ghost use Rattle.rules.specs.Answer.{is_ended, is_above, list_rules, taking_rules, out_of_limits, too_short};

@@ -1,4 +1,6 @@
 // One valid setup (docs/RULES.md, "One valid setup"): the first call of a run alone, on the formula and the held literals.
+#![tactic(auto)]
+
 ghost use Rattle.std.specs.Prelude.{◌≡◌, length};
 ghost use Rattle.rules.specs.Held.{list_with};
 ghost use Rattle.rules.specs.Setup.{setup_given, SetsUp};

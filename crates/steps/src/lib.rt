@@ -1,4 +1,6 @@
 // The steps of a run that need no call (docs/RULES.md, "Run"): compare, flip, hint, chunk, constraint, records, log row.
+#![tactic(auto)]
+
 pub mod chunk;
 pub mod compare;
 pub mod constraint;

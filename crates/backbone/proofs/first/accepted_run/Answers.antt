@@ -1,0 +1,47 @@
+-- `first::accepted_run` meets its contract: what is cleared shows that nothing is known yet, and the starts are the list's.
+-- Assumes nothing.
+use mathlib.Core.Path.{sym, ◌∙◌, ap}
+use Prim.Native.Nat.{ℕ}
+use native.Mathlib.Omega.{arith}
+use lib.ListN.{replicate}
+use borrow.Author.Rules.{rules}
+use Rattle.backbone.proofs.ListingLaws.{found_formula, cleared, front_len}
+use Rattle.backbone.proofs.first.accepted_run.Goals as goal
+
+pub slice_bounds-with_hints-end : goal.slice_bounds-with_hints-end
+slice_bounds-with_hints-end c =
+    front_len _ _ (omega (arith, c.find_starts-count.ensures.count_is, c.requires.clauses_most, c.find_starts-count.auto.starts))
+
+pub with_hints-requires : goal.with_hints-requires
+with_hints-requires c =
+    let len = c.clear_bytes-2.auto.bytes in
+    let first_len = c.requires.first_len ∙ sym len in
+    record {
+      begins =
+          record {
+            formula = rw len (found_formula c.requires.formula c.find_starts-count.ensures);
+            first_len = c.clear_bytes.auto.bytes ∙ first_len;
+            cleared =
+                cleared c.args.status.now c.args.calls.now c.args.ways.now c.args.log.now c.requires.lent c.requires.log_len len
+                c.clear_bytes-2.ensures c.clear_numbers.ensures c.clear_bytes-3.ensures c.clear_numbers-2.ensures;
+            allowed = c.requires.allowed;
+          };
+      blank_first = c.clear_bytes.ensures ∙ ap (λ (n : ℕ). replicate n 0) first_len;
+      hints_len = c.requires.hints_len ∙ sym len;
+    }
+
+pub shape_of-first : goal.shape_of-first
+shape_of-first c =
+    c.with_hints.auto.first ∙ c.clear_bytes.auto.bytes
+
+pub shape_of-status : goal.shape_of-status
+shape_of-status c =
+    c.with_hints.auto.status ∙ c.clear_bytes-2.auto.bytes
+
+pub shape_of-calls : goal.shape_of-calls
+shape_of-calls c =
+    c.with_hints.auto.calls ∙ c.clear_numbers.auto.numbers
+
+pub returns : goal.returns
+returns c =
+    rw c.clear_bytes-2.auto.bytes at c.with_hints.ensures

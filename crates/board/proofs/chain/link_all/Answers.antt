@@ -1,0 +1,125 @@
+-- `board::chain::link_all` meets its contract. The invariant of its loop: the chains are those of the clauses behind. The measure
+-- is the number of entries left. Assumes nothing.
+use mathlib.Core.Logic.{◌≢◌}
+use mathlib.Core.Path.{◌≡◌, ◌∙◌, ap}
+use Prim.Native.Nat.{◌-◌}
+use native.Mathlib.Omega.{arith}
+use lib.Dec.{lit<}
+use lib.IntN.{pos}
+use lib.ListN.{get_or}
+use mir.Syntax.{w32}
+use mir.Val.{of_z}
+use Rattle.rules.proofs.BitLaws.{to_z-of_z_at}
+use Rattle.rules.proofs.ClauseLaws.{clauses_le}
+use Rattle.formula.proofs.SignedLaws.{of_z_inj}
+use Rattle.rules.specs.Meaning.{LitUpTo}
+use Rattle.rules.specs.Numbers.{max_vars}
+use Rattle.board.proofs.LinkLaws.{linking_start, linking_zero, linking_literal, linking_skip, linking_done, link_asks, literal_up_to}
+use Rattle.board.proofs.LinkLaws.{zero_pos}
+use Rattle.board.specs.Holders.{code_of}
+use Rattle.board.proofs.chain.link_all.Goals as goal
+
+pub loop-e-init : goal.loop-e-init
+loop-e-init c =
+    linking_start c.requires
+
+pub offset_bounds-entries-e : goal.offset_bounds-entries-e
+offset_bounds-entries-e c =
+    omega (arith, c.loop-e.invariant.within)
+
+pub bounds-entries-e : goal.bounds-entries-e
+bounds-entries-e c =
+    omega (arith, c.loop-e.invariant.within)
+
+pub overflow_sub-c : goal.overflow_sub-c
+overflow_sub-c c =
+    let is_zero : get_or c.args.entries.now
+    (c.loop-e.e - 1) (pos 0) ≡ pos 0 =
+    of_z_inj c.entry-1.given (lit< tt) c.if-entry-eq0.true in
+    zero_pos c.requires c.loop-e-test.true
+    c.loop-e.invariant is_zero
+
+pub loop-e-preserved-then-entry-eq0 : goal.loop-e-preserved-then-entry-eq0
+loop-e-preserved-then-entry-eq0 c =
+    let is_zero : get_or c.args.entries.now
+    (c.loop-e.e - 1) (pos 0) ≡ pos 0 =
+    of_z_inj c.entry-1.given (lit< tt) c.if-entry-eq0.true in
+    linking_zero c.requires c.loop-e-test.true
+    c.loop-e.invariant is_zero
+
+pub code_of-requires : goal.code_of-requires
+code_of-requires c =
+    let not_zero : get_or c.args.entries.now
+    (c.loop-e.e - 1) (pos 0) ≢ pos 0 =
+    λ e. c.if-entry-eq0.false (ap (of_z w32) e) in
+    let up = literal_up_to c.requires c.loop-e-test.true
+    c.loop-e.invariant not_zero in
+    let fit : LitUpTo max_vars
+    (get_or c.args.entries.now (c.loop-e.e - 1)
+    (pos 0)) = record {
+      some = up.some;
+      most =
+          omega (arith, up.most, c.requires.vars_fit);
+    } in
+    rw (to_z-of_z_at _ (record { sfits = c.entry-1.given })) fit
+
+pub overflow_cast-c : goal.overflow_cast-c
+overflow_cast-c c =
+    omega (arith, c.if-c-count.true, c.requires.count_is, clauses_le c.args.entries.now, c.requires.entries_fit)
+
+pub link-m-requires : goal.link-m-requires
+link-m-requires c =
+    let not_zero : get_or c.args.entries.now
+    (c.loop-e.e - 1) (pos 0) ≢ pos 0 =
+    λ e. c.if-entry-eq0.false (ap (of_z w32) e) in
+    let code_is : c.code_of.result ≡ code_of
+    (get_or c.args.entries.now
+    (c.loop-e.e - 1) (pos 0)) =
+    c.code_of.ensures ∙
+    ap code_of (to_z-of_z_at
+    (get_or c.args.entries.now
+    (c.loop-e.e - 1) (pos 0))
+    (record { sfits = c.entry-1.given })) in
+    rw code_is (link_asks c.requires c.loop-e-test.true
+    c.loop-e.invariant not_zero)
+
+pub loop-e-preserved-then-c-count : goal.loop-e-preserved-then-c-count
+loop-e-preserved-then-c-count c =
+    let not_zero : get_or c.args.entries.now
+    (c.loop-e.e - 1) (pos 0) ≢ pos 0 =
+    λ e. c.if-entry-eq0.false (ap (of_z w32) e) in
+    let code_is : c.code_of.result ≡ code_of
+    (get_or c.args.entries.now
+    (c.loop-e.e - 1) (pos 0)) =
+    c.code_of.ensures ∙
+    ap code_of (to_z-of_z_at
+    (get_or c.args.entries.now
+    (c.loop-e.e - 1) (pos 0))
+    (record { sfits = c.entry-1.given })) in
+    linking_literal c.requires c.loop-e-test.true
+    c.loop-e.invariant not_zero c.if-c-count.true
+    (rw code_is at c.link-m.ensures) c.link-m.auto.heads c.link-m.auto.nexts c.link-m.auto.owners
+
+pub loop-e-preserved : goal.loop-e-preserved
+loop-e-preserved c =
+    let not_zero : get_or c.args.entries.now
+    (c.loop-e.e - 1) (pos 0) ≢ pos 0 =
+    λ e. c.if-entry-eq0.false (ap (of_z w32) e) in
+    linking_skip c.requires c.loop-e-test.true
+    c.loop-e.invariant not_zero c.if-c-count.false
+
+pub shape_of-heads : goal.shape_of-heads
+shape_of-heads c =
+    c.loop-e.invariant.same_heads
+
+pub shape_of-nexts : goal.shape_of-nexts
+shape_of-nexts c =
+    c.loop-e.invariant.same_nexts
+
+pub shape_of-owners : goal.shape_of-owners
+shape_of-owners c =
+    c.loop-e.invariant.same_owners
+
+pub returns : goal.returns
+returns c =
+    linking_done c.requires c.loop-e-test.false c.loop-e.invariant

@@ -1,0 +1,41 @@
+-- `board::constraint::mark_all` meets its contract. The invariant of its loop: the literals from index i on are marked and counted. The
+-- measure is what is left. Assumes nothing.
+use Prim.Native.Nat.{◌-◌}
+use native.Mathlib.Omega.{arith}
+use lib.IntN.{pos}
+use lib.ListN.{get_or}
+use Rattle.rules.proofs.BitLaws.{to_z-of_z_at}
+use Rattle.board.proofs.ConstraintLaws.{marking_start, mark_asks, marking_step, marking_done}
+use Rattle.board.proofs.constraint.mark_all.Goals as goal
+
+pub loop-i-init : goal.loop-i-init
+loop-i-init c =
+    marking_start c.requires
+
+pub offset_bounds-constraint-i : goal.offset_bounds-constraint-i
+offset_bounds-constraint-i c =
+    omega (arith, c.loop-i-test.true, c.loop-i.invariant.within)
+
+pub bounds-constraint-i : goal.bounds-constraint-i
+bounds-constraint-i c =
+    omega (arith, c.loop-i-test.true, c.loop-i.invariant.within)
+
+pub mark-key-requires : goal.mark-key-requires
+mark-key-requires c =
+    rw (to_z-of_z_at _ (record { sfits = c.mark-arg-in-loop-i-1.given }))
+    (mark_asks c.requires c.loop-i-test.true c.loop-i.invariant)
+
+pub loop-i-preserved : goal.loop-i-preserved
+loop-i-preserved c =
+    marking_step c.requires c.loop-i-test.true c.loop-i.invariant
+    (rw (to_z-of_z_at (get_or c.args.constraint.now (c.loop-i.i - 1) (pos 0))
+    (record { sfits = c.mark-arg-in-loop-i-1.given })) at c.mark-key.ensures)
+    c.mark-key.auto.marks
+
+pub shape_of-marks : goal.shape_of-marks
+shape_of-marks c =
+    c.loop-i.invariant.same
+
+pub returns : goal.returns
+returns c =
+    marking_done c.requires c.loop-i-test.false c.loop-i.invariant

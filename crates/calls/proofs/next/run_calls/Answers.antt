@@ -1,0 +1,134 @@
+-- `next::run_calls` meets its contract. The invariant of its loop: the buffers keep their lengths, the run is where it was, or further, and
+-- calls and ways show its records. The measure is how many candidates remain. Assumes nothing.
+use mathlib.Core.Path.{sym, ◌∙◌}
+use lib.ListN.{length}
+use borrow.Author.Rules.{rules}
+use Rattle.search.specs.Rooms.{BoardKept}
+use Rattle.calls.proofs.LoopLaws.{Kept, kept_start, first_length, going_step, going_less, going_end, going_done, kept_step, kept_end, kept_done}
+use Rattle.calls.proofs.next.run_calls.Goals as goal
+
+pub loop-tally-init : goal.loop-tally-init
+loop-tally-init c =
+    (kept_start _ _ _ _ _ _ _ _ _, c.requires.1)
+
+pub next_call-requires : goal.next_call-requires
+next_call-requires c =
+    let p = c.requires.0.over in
+    let l = c.loop-tally.invariant.0.running in (
+      record {
+        over =
+            record {
+              formula = rw l.status_len p.formula;
+              values_len = l.values_len ∙ p.values_len ∙ sym l.status_len;
+              allowed = p.allowed;
+              here = rw l.status_len (l.going p.here).here;
+            };
+        some = c.loop-tally-test.true;
+      },
+      rw l.status_len c.loop-tally.invariant.1,
+    )
+
+pub put_records-requires : goal.put_records-requires
+put_records-requires c =
+    let s = c.requires.0 in
+    let w = c.loop-tally.invariant.0 in
+    let kept = c.next_call.auto in
+    let status_len = kept.status ∙ w.running.status_len in
+    record {
+      first_len = first_length s.over.here ∙ sym status_len;
+      model_len = kept.values ∙ w.running.values_len ∙ s.over.values_len ∙ sym status_len;
+      calls_len = w.calls_len ∙ s.lent.calls_len ∙ sym status_len;
+      ways_len = w.ways_len ∙ s.lent.ways_len ∙ sym status_len;
+    }
+
+pub loop-tally-smaller : goal.loop-tally-smaller
+loop-tally-smaller c =
+    let p = c.requires.0.over in
+    let l = c.loop-tally.invariant.0.running in
+    going_less p.allowed.some l.going (rw l.status_len at c.next_call.ensures.0) c.in-GoesOn.is p.here
+
+pub loop-tally-preserved : goal.loop-tally-preserved
+loop-tally-preserved c =
+    let p = c.requires.0.over in
+    let w = c.loop-tally.invariant.0 in
+    let l = w.running in
+    let kept = c.next_call.auto in
+    let ensured = rw l.status_len at c.next_call.ensures.0 in (
+      record {
+        running =
+            record {
+              status_len = kept.status ∙ l.status_len;
+              log_len = kept.log ∙ l.log_len;
+              values_len = kept.values ∙ l.values_len;
+              going = going_step p.allowed.some l.going ensured c.in-GoesOn.is;
+            };
+        calls_len = c.put_records.auto.calls ∙ w.calls_len;
+        ways_len = c.put_records.auto.ways ∙ w.ways_len;
+        shown =
+            kept_step p.allowed.some l.going ensured c.loop-tally-test.true w.shown c.in-GoesOn.is
+            c.put_records.ensures;
+      },
+      rw l.status_len at c.next_call.ensures.1,
+    )
+
+pub shape_of-status-in-Ends : goal.shape_of-status-in-Ends
+shape_of-status-in-Ends c =
+    c.next_call.auto.status ∙ c.loop-tally.invariant.0.running.status_len
+
+pub shape_of-calls-in-Ends : goal.shape_of-calls-in-Ends
+shape_of-calls-in-Ends c =
+    c.loop-tally.invariant.0.calls_len
+
+pub shape_of-ways-in-Ends : goal.shape_of-ways-in-Ends
+shape_of-ways-in-Ends c =
+    c.loop-tally.invariant.0.ways_len
+
+pub shape_of-log-in-Ends : goal.shape_of-log-in-Ends
+shape_of-log-in-Ends c =
+    c.next_call.auto.log ∙ c.loop-tally.invariant.0.running.log_len
+
+pub shape_of-values-in-Ends : goal.shape_of-values-in-Ends
+shape_of-values-in-Ends c =
+    c.next_call.auto.values ∙ c.loop-tally.invariant.0.running.values_len
+
+pub returns-in-Ends : goal.returns-in-Ends
+returns-in-Ends c =
+    let p = c.requires.0.over in
+    let w = c.loop-tally.invariant.0 in
+    let l = w.running in
+    let ensured = rw l.status_len at c.next_call.ensures.0 in
+    record {
+      ends = λ v. going_end p.allowed.some l.going ensured c.in-Ends.is v;
+      records =
+          λ v x. kept_end p.allowed.some l.going ensured c.loop-tally-test.true w.shown
+          c.in-Ends.is v x;
+    }
+
+pub shape_of-status : goal.shape_of-status
+shape_of-status c =
+    c.loop-tally.invariant.0.running.status_len
+
+pub shape_of-calls : goal.shape_of-calls
+shape_of-calls c =
+    c.loop-tally.invariant.0.calls_len
+
+pub shape_of-ways : goal.shape_of-ways
+shape_of-ways c =
+    c.loop-tally.invariant.0.ways_len
+
+pub shape_of-log : goal.shape_of-log
+shape_of-log c =
+    c.loop-tally.invariant.0.running.log_len
+
+pub shape_of-values : goal.shape_of-values
+shape_of-values c =
+    c.loop-tally.invariant.0.running.values_len
+
+pub returns : goal.returns
+returns c =
+    let p = c.requires.0.over in
+    let w = c.loop-tally.invariant.0 in
+    record {
+      ends = λ v. going_done p.allowed.some w.running.going c.loop-tally-test.false v;
+      records = λ v x. kept_done p.allowed.some w.running.going c.loop-tally-test.false v (w.shown v x);
+    }

@@ -1,0 +1,15 @@
+-- `next::run_calls` meets its contract. The invariant of its loop: the buffers keep their lengths, the run is where it was, or further, and
+-- calls and ways show its records. The measure is how many candidates remain. Assumes nothing.
+use mathlib.Core.Path.{sym, ◌∙◌}
+use lib.ListN.{length}
+use borrow.Author.Rules.{rules}
+use Rattle.search.specs.Rooms.{BoardKept}
+use Rattle.calls.proofs.LoopLaws.{Kept, kept_start, first_length, going_step, going_less, going_end, going_done, kept_step, kept_end, kept_done}
+use Rattle.calls.proofs.next.run_calls.Given as goal
+
+abbrev pub invariant-loop-tally : goal.invariant-loop-tally
+invariant-loop-tally l = Kept l.entries l.limits l.first l.initial.tally l.initial.status l.initial.calls l.initial.ways l.initial.log l.initial.values l.tally l.status l.calls l.ways l.log l.values
+    × BoardKept (length l.initial.status) l.entries l.starts l.lists l.holders l.marks l.shown l.keys l.hot l.trail
+
+abbrev pub decreases-loop-tally : goal.decreases-loop-tally
+decreases-loop-tally l = l.tally.candidates

@@ -1,0 +1,90 @@
+-- The proof of the cycle of calls {check_tree}. A tree leads where its first number does, a split's where its tree for false leads and then
+-- its tree for true. Assumes nothing.
+use mathlib.Core.Path.{◌≡◌, refl, ◌∙◌, ap, subst}
+use Prim.Native.Nat.{ℕ, ◌<◌}
+use native.Mathlib.Omega.{arith}
+use lib.ListN.{length, set, length-set}
+use Rattle.rules.specs.Meaning.{Values, clauses, value_at}
+use Rattle.rules.proofs.MeaningLaws.{unset_within}
+use Rattle.claims.specs.Steps.{TreeRead}
+use Rattle.claims.proofs.TreeLaws.{split_unset, tree_stop, tree_end, tree_first, tree_both, set-again, taken_back, falls_set, formula_same}
+use Rattle.claims.proofs.tree.+check_tree.Goals as goal
+
+-- the variable's place is there
+within : (values us : Values) (index b : ℕ) → value_at values index ≡ 0 → us ≡ set values index b → index < length us
+within values us index b unset e = omega (arith, ap length e, length-set values index b, unset_within values index unset)
+
+pub bounds-values-i : goal.bounds-values-i
+bounds-values-i t c = unset_within c.args.values.now c.in-Split.i (split_unset c.in-Split.ensures)
+
+pub check_tree-requires : goal.check_tree-requires
+check_tree-requires t c =
+    let before = c.args.values.now in
+    let i = c.in-Split.i in (
+      omega (arith, c.decreases, falls_set before (set before i 1) i 0 (split_unset c.in-Split.ensures) refl),
+      formula_same before (set before i 1) i 1 refl c.requires,
+    )
+
+pub bounds-values-i-in-Stop-check_tree : goal.bounds-values-i-in-Stop-check_tree
+bounds-values-i-in-Stop-check_tree t c =
+    within c.args.values.now c.check_tree.new.values c.in-Split.i 1 (split_unset c.in-Split.ensures) c.check_tree.ensures.same
+
+pub bounds-values-i-in-On : goal.bounds-values-i-in-On
+bounds-values-i-in-On t c =
+    within c.args.values.now c.check_tree.new.values c.in-Split.i 1 (split_unset c.in-Split.ensures) c.check_tree.ensures.same
+
+pub check_tree-last-requires : goal.check_tree-last-requires
+check_tree-last-requires t c =
+    let before = c.args.values.now in
+    let first = c.check_tree.new.values in
+    let i = c.in-Split.i in
+    let again : set first i 2 ≡ set before i 2 = set-again before first i 1 2 c.check_tree.ensures.same in (
+      omega (arith, c.decreases, falls_set before (set first i 2) i 1 (split_unset c.in-Split.ensures) again),
+      formula_same before (set first i 2) i 2 again c.requires,
+    )
+
+pub bounds-values-i-in-On-2 : goal.bounds-values-i-in-On-2
+bounds-values-i-in-On-2 t c =
+    let before = c.args.values.now in
+    let i = c.in-Split.i in
+    within before c.check_tree-last.new.values i 2 (split_unset c.in-Split.ensures)
+    (c.check_tree-last.ensures.same ∙ set-again before c.check_tree.new.values i 1 2 c.check_tree.ensures.same)
+
+pub returns-in-Stop : goal.returns-in-Stop
+returns-in-Stop t c = record { read = tree_stop c.in-Stop.ensures; same = refl }
+
+pub returns-in-End : goal.returns-in-End
+returns-in-End t c = record { read = tree_end c.in-End.ensures; same = refl }
+
+pub shape_of-values-in-Stop-check_tree : goal.shape_of-values-in-Stop-check_tree
+shape_of-values-in-Stop-check_tree t c =
+    ap length
+    (taken_back c.args.values.now c.check_tree.new.values c.in-Split.i 1 (split_unset c.in-Split.ensures) c.check_tree.ensures.same)
+
+pub returns-in-Stop-check_tree : goal.returns-in-Stop-check_tree
+returns-in-Stop-check_tree t c = record {
+  read = tree_first c.in-Split.ensures c.in-Stop-check_tree.ensures.read;
+  same = taken_back c.args.values.now c.check_tree.new.values c.in-Split.i 1 (split_unset c.in-Split.ensures) c.check_tree.ensures.same;
+}
+
+pub shape_of-values-in-On : goal.shape_of-values-in-On
+shape_of-values-in-On t c =
+    let before = c.args.values.now in
+    let i = c.in-Split.i in
+    ap length
+    (taken_back before c.check_tree-last.new.values i 2 (split_unset c.in-Split.ensures)
+    (c.check_tree-last.ensures.same ∙ set-again before c.check_tree.new.values i 1 2 c.check_tree.ensures.same))
+
+pub returns-in-On : goal.returns-in-On
+returns-in-On t c =
+    let before = c.args.values.now in
+    let first = c.check_tree.new.values in
+    let i = c.in-Split.i in
+    let again : set first i 2 ≡ set before i 2 = set-again before first i 1 2 c.check_tree.ensures.same in
+    record {
+      read =
+          tree_both c.in-Split.ensures c.in-On.ensures.read
+          (subst (λ (us : Values). TreeRead (clauses c.args.entries.now) c.args.text.now us c.in-On.next c.check_tree-last.result) again
+          c.check_tree-last.ensures.read);
+      same = taken_back before c.check_tree-last.new.values i 2 (split_unset c.in-Split.ensures) (c.check_tree-last.ensures.same ∙ again);
+    }

@@ -1,0 +1,25 @@
+-- `reader::read` meets its contract. The three ways a reading ends: 1, 2, or what the text is judged to. Assumes nothing.
+use native.Mathlib.Omega.{arith}
+use Rattle.reader.proofs.StoreLaws.{read_short, read_long, stores_count, read_done}
+use Rattle.reader.proofs.read.Goals as goal
+
+pub returns-then-entries-lt-MAX_ENTRIES : goal.returns-then-entries-lt-MAX_ENTRIES
+returns-then-entries-lt-MAX_ENTRIES c =
+    read_short c.args.text.now c.args.entries.now c.if-entries-lt-MAX_ENTRIES.true c.refused.result
+    c.refused.ensures
+
+pub returns-then-text-gt-MAX_TEXT : goal.returns-then-text-gt-MAX_TEXT
+returns-then-text-gt-MAX_TEXT c =
+    read_long c.args.text.now c.args.entries.now c.if-entries-lt-MAX_ENTRIES.false (omega (arith, c.if-text-gt-MAX_TEXT.true)) c.refused-then-text-gt-MAX_TEXT.result
+    c.refused-then-text-gt-MAX_TEXT.ensures
+
+pub clear-requires : goal.clear-requires
+clear-requires c = (
+  omega (arith, stores_count c.args.text.now c.args.entries.now c.if-entries-lt-MAX_ENTRIES.false c.read_text-r.ensures),
+  omega (arith, c.read_text-r.auto, c.if-entries-lt-MAX_ENTRIES.false),
+)
+
+pub returns : goal.returns
+returns c =
+    read_done c.args.text.now c.args.entries.now c.if-entries-lt-MAX_ENTRIES.false (omega (arith, c.if-text-gt-MAX_TEXT.false)) c.read_text-r.result c.read_text-r.new.entries
+    c.clear.new.entries c.read_text-r.ensures c.clear.ensures

@@ -1,0 +1,37 @@
+-- `nth_zero` meets its contract. The invariant of its loop: the index looked for is that in what is left. The measure is what
+-- is left. Assumes nothing.
+use Prim.Native.Nat.{◌-◌}
+use borrow.Author.Rules.{rules}
+use lib.IntN.{ℤ, pos}
+use lib.ListN.{length, get_or}
+use Rattle.rules.specs.Lists.{is_zero}
+use Rattle.refusals.proofs.RefuseLaws.{Seek, seek_start, seek_pass, seek_count, seek_found, seek_done, is_zero_same, is_zero_other}
+use Rattle.refusals.proofs.nth_zero.Goals as goal
+
+pub loop-i-init : goal.loop-i-init
+loop-i-init c =
+    seek_start _ _ _
+
+pub returns-then-left-eq0 : goal.returns-then-left-eq0
+returns-then-left-eq0 c =
+    let here : ℤ =
+        get_or c.args.entries.now c.loop-i.i (pos 0) in
+    seek_found c.loop-i.invariant c.loop-i-test.true
+    (is_zero_same here c.entry-1.given c.if-entry-eq0.true) c.if-left-eq0.true
+
+pub loop-i-preserved-then-entry-eq0 : goal.loop-i-preserved-then-entry-eq0
+loop-i-preserved-then-entry-eq0 c =
+    let here : ℤ =
+        get_or c.args.entries.now c.loop-i.i (pos 0) in
+    seek_count c.loop-i.invariant c.loop-i-test.true
+    (is_zero_same here c.entry-1.given c.if-entry-eq0.true) c.if-left-eq0.false
+
+pub loop-i-preserved : goal.loop-i-preserved
+loop-i-preserved c =
+    let here : ℤ =
+        get_or c.args.entries.now c.loop-i.i (pos 0) in
+    seek_pass c.loop-i.invariant c.loop-i-test.true (is_zero_other here c.if-entry-eq0.false)
+
+pub returns : goal.returns
+returns c =
+    seek_done c.loop-i.invariant c.loop-i-test.false

@@ -1,0 +1,34 @@
+-- `search::values::lowest_from` meets its contract. The invariant of its loop: no variable below index i is unset. The measure is
+-- what is left. Assumes nothing.
+use native.Mathlib.Omega.{arith}
+use native.Mathlib.Numerals.{add-one}
+use Rattle.search.proofs.ValueLaws.{passed_from, passed_step, passed_unset, passed_done}
+use Rattle.search.proofs.values.lowest_from.Goals as goal
+
+pub loop-i-init : goal.loop-i-init
+loop-i-init c =
+    passed_from c.requires.1
+
+pub overflow_cast-result : goal.overflow_cast-result
+overflow_cast-result c =
+    omega (arith, c.loop-i-test.true, c.requires.0)
+
+pub overflow_add-result : goal.overflow_add-result
+overflow_add-result c =
+    omega (arith, c.loop-i-test.true, c.requires.0)
+
+pub returns-then-values-i-eq0 : goal.returns-then-values-i-eq0
+returns-then-values-i-eq0 c =
+    rw (
+      passed_unset c.args.values.now c.loop-i.i c.loop-i-test.true c.loop-i.invariant
+          c.if-values-i-eq0.true,
+      add-one,
+    )
+
+pub loop-i-preserved : goal.loop-i-preserved
+loop-i-preserved c =
+    passed_step c.args.values.now c.loop-i.i c.loop-i-test.true c.loop-i.invariant c.if-values-i-eq0.false
+
+pub returns : goal.returns
+returns c =
+    rw (passed_done c.args.values.now c.loop-i.i c.loop-i-test.false c.loop-i.invariant)

@@ -1,0 +1,37 @@
+-- `constraint::put_constraint` meets its contract. The invariant of its loop: what is put, and what is still to put, are the
+-- constraint. The measure is what is left of the length. Assumes nothing.
+use Prim.Native.Nat.{◌-◌}
+use native.Mathlib.Omega.{arith}
+use borrow.Author.Rules.{rules}
+use lib.ListN.{length}
+use Rattle.steps.proofs.ConstraintLaws.{Putting, putting_start, putting_step, putting_done}
+use Rattle.steps.proofs.constraint.put_constraint.Goals as goal
+
+pub loop-i-init : goal.loop-i-init
+loop-i-init c =
+    putting_start _ _ _ _
+
+pub put_if-k-requires : goal.put_if-k-requires
+put_if-k-requires c =
+    let p = c.requires in
+    let here = c.loop-i-test.true in
+    record {
+      in_first = omega (arith, here, p.first_len);
+      in_status = here;
+      vars_fit = p.vars_fit;
+      room = omega (arith, c.loop-i.invariant.len, p.room);
+    }
+
+pub loop-i-preserved : goal.loop-i-preserved
+loop-i-preserved c =
+    let w = c.loop-i.invariant in
+    putting_step c.requires.first_len (omega (arith, w.len, c.requires)) w c.loop-i-test.true c.put_if-k.ensures
+
+pub shape_of-out : goal.shape_of-out
+shape_of-out c =
+    c.loop-i.invariant.len
+
+pub returns : goal.returns
+returns c =
+    let w = c.loop-i.invariant in
+    putting_done c.requires.first_len c.requires.chunk_most (omega (arith, w.len, c.requires)) w c.loop-i-test.false

@@ -1,0 +1,13 @@
+-- `hint::hint_of` meets its contract: by the law for each of its two ways. Assumes nothing.
+use borrow.Author.Rules.{rules}
+use Rattle.steps.proofs.HintLaws.{hinted_unset, hinted_set}
+use Rattle.steps.proofs.hint.hint_of.Goals as goal
+
+pub returns-then-first-at-eq0 : goal.returns-then-first-at-eq0
+returns-then-first-at-eq0 c =
+    hinted_unset _ c.args.first.now c.args.v.0 c.index_of-at.result c.index_of-at.ensures c.if-first-at-eq0.true
+
+pub returns : goal.returns
+returns c =
+    hinted_set _ c.args.first.now c.args.v.0 c.index_of-at.result c.index_of-at.ensures c.if-first-at-eq0.false c.flip_test-flip.ensures
+    c.hint_number.ensures
