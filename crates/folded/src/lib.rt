@@ -1,5 +1,7 @@
 // The formula with forced literals folded in, as text (docs/RULES.md, "The shorter file"), put into a buffer that is lent. The forced
 // literals are lent as values, a byte a variable: 0 not forced, 1 forced false, 2 forced true.
+#![tactic(auto)]
+
 ghost use Rattle.std.specs.Prelude.{[], ◌∷◌};
 ghost use Rattle.rules.specs.Meaning.{clauses};
 ghost use Rattle.texts.specs.Plain.{plain};

@@ -1,4 +1,6 @@
 // The table of a text (docs/RULES.md, "The printed table"), put into a buffer that is lent.
+#![tactic(auto)]
+
 ghost use Rattle.texts.specs.Printed.{Prints};
 
 mod table;

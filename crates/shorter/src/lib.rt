@@ -1,5 +1,7 @@
 // The shorter file (docs/RULES.md, "The shorter file"): a run with no literal held, and the formula with what it has settled folded in, as
 // text in a buffer that is lent.
+#![tactic(auto)]
+
 ghost use Rattle.std.specs.Prelude.{length};
 ghost use Rattle.rules.specs.Meaning.{clauses};
 ghost use Rattle.texts.specs.Plain.{plain};

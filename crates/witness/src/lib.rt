@@ -1,4 +1,6 @@
 // A witness to see (docs/RULES.md, "A witness to see"): for a free variable the first model of a run, and a model that differs on it.
+#![tactic(auto)]
+
 ghost use Rattle.std.specs.Prelude.{◌≡◌, length};
 ghost use Rattle.rules.specs.Held.{list_with};
 ghost use Rattle.rules.specs.Witness.{asked, few_literals, Witnesses};
