@@ -8,12 +8,6 @@ use borrow.Author.Rules.{rules}
 use Rattle.groups_printed.proofs.LineLaws.{Lining, lining_start, lining_part, lining_room, lining_step, lining_done}
 use Rattle.groups_printed.proofs.line.put_groups.Goals as goal
 
-{- LEFT
--- no goal for Need-slice-bounds-put-values-end
-part_put_values_end : tie.Need-slice-bounds-put-values-end invariant_loop decreases_loop
-part_put_values_end c = part c.before.before
--}
-
 pub loop-i-init : goal.loop-i-init
 loop-i-init c =
     lining_start c.requires

@@ -16,38 +16,38 @@ pub put_kept-requires : goal.put_kept-requires
 put_kept-requires c =
     let by : WhyAnswer → List ℕ =
         λ a. let x = c.args in why_text_by a x.report (clauses x.entries.now) x.marks.now x.values.now in
-    let room : (s : tie.Start) {a : WhyAnswer} → s.args.report.answer ≡ a → Room 0 (by a) s.args.out.now =
-        λ s e. room_same (ap by e) s.requires.room in
+    let room : (a : WhyAnswer) → c.args.report.answer ≡ a → Room 0 (by a) c.args.out.now =
+        λ a e. room_same (ap by e) c.requires.room in
     record {
       entries_fit = c.requires.entries_fit;
       clauses_fit = c.requires.clauses_fit;
       marks_fit = c.requires.marks_fit;
-      room = room c c.in-Kept.is;
+      room = room _ c.in-Kept.is;
     }
 
 pub put_first-requires : goal.put_first-requires
 put_first-requires c =
     let by : WhyAnswer → List ℕ =
         λ a. let x = c.args in why_text_by a x.report (clauses x.entries.now) x.marks.now x.values.now in
-    let room : (s : tie.Start) {a : WhyAnswer} → s.args.report.answer ≡ a → Room 0 (by a) s.args.out.now =
-        λ s e. room_same (ap by e) s.requires.room in
-    room c c.in-NoModel.is
+    let room : (a : WhyAnswer) → c.args.report.answer ≡ a → Room 0 (by a) c.args.out.now =
+        λ a e. room_same (ap by e) c.requires.room in
+    room _ c.in-NoModel.is
 
 pub put_first-requires-in-Stopped : goal.put_first-requires-in-Stopped
 put_first-requires-in-Stopped c =
     let by : WhyAnswer → List ℕ =
         λ a. let x = c.args in why_text_by a x.report (clauses x.entries.now) x.marks.now x.values.now in
-    let room : (s : tie.Start) {a : WhyAnswer} → s.args.report.answer ≡ a → Room 0 (by a) s.args.out.now =
-        λ s e. room_same (ap by e) s.requires.room in
-    room c c.in-Stopped.is
+    let room : (a : WhyAnswer) → c.args.report.answer ≡ a → Room 0 (by a) c.args.out.now =
+        λ a e. room_same (ap by e) c.requires.room in
+    room _ c.in-Stopped.is
 
 pub put_false-requires : goal.put_false-requires
 put_false-requires c =
     let by : WhyAnswer → List ℕ =
         λ a. let x = c.args in why_text_by a x.report (clauses x.entries.now) x.marks.now x.values.now in
-    let room : (s : tie.Start) {a : WhyAnswer} → s.args.report.answer ≡ a → Room 0 (by a) s.args.out.now =
-        λ s e. room_same (ap by e) s.requires.room in
-    (room c c.in-NotForced.is, c.requires.values_fit)
+    let room : (a : WhyAnswer) → c.args.report.answer ≡ a → Room 0 (by a) c.args.out.now =
+        λ a e. room_same (ap by e) c.requires.room in
+    (room _ c.in-NotForced.is, c.requires.values_fit)
 
 pub put_refused-requires : goal.put_refused-requires
 put_refused-requires c =

@@ -14,43 +14,43 @@ pub put_pair-requires : goal.put_pair-requires
 put_pair-requires c =
     let by : RunAnswer → List ℕ =
         λ a. text_by a c.args.first.now c.args.witness.now in
-    let pair_ready : (s : tie.Start) {a : RunAnswer} → s.args.report.answer ≡ a → by a ≡ lines_of s.args.first.now s.args.witness.now → PairReady s.args.first.now s.args.witness.now s.args.bits.now s.args.out.now =
-        λ s e f. let p = s.requires in
+    let pair_ready : (a : RunAnswer) → c.args.report.answer ≡ a → by a ≡ lines_of c.args.first.now c.args.witness.now → PairReady c.args.first.now c.args.witness.now c.args.bits.now c.args.out.now =
+        λ a e f. let p = c.requires in
     record {
       first_len = p.first_len;
       witness_len = p.witness_len;
       vars_fit = p.vars_fit;
       room = room_same (ap by e ∙ f) p.room;
     } in
-    pair_ready c c.in-Settled.is refl
+    pair_ready _ c.in-Settled.is refl
 
 pub put_pair-requires-in-NoModel : goal.put_pair-requires-in-NoModel
 put_pair-requires-in-NoModel c =
     let by : RunAnswer → List ℕ =
         λ a. text_by a c.args.first.now c.args.witness.now in
-    let pair_ready : (s : tie.Start) {a : RunAnswer} → s.args.report.answer ≡ a → by a ≡ lines_of s.args.first.now s.args.witness.now → PairReady s.args.first.now s.args.witness.now s.args.bits.now s.args.out.now =
-        λ s e f. let p = s.requires in
+    let pair_ready : (a : RunAnswer) → c.args.report.answer ≡ a → by a ≡ lines_of c.args.first.now c.args.witness.now → PairReady c.args.first.now c.args.witness.now c.args.bits.now c.args.out.now =
+        λ a e f. let p = c.requires in
     record {
       first_len = p.first_len;
       witness_len = p.witness_len;
       vars_fit = p.vars_fit;
       room = room_same (ap by e ∙ f) p.room;
     } in
-    pair_ready c c.in-NoModel.is refl
+    pair_ready _ c.in-NoModel.is refl
 
 pub put_pair-requires-in-Stopped : goal.put_pair-requires-in-Stopped
 put_pair-requires-in-Stopped c =
     let by : RunAnswer → List ℕ =
         λ a. text_by a c.args.first.now c.args.witness.now in
-    let pair_ready : (s : tie.Start) {a : RunAnswer} → s.args.report.answer ≡ a → by a ≡ lines_of s.args.first.now s.args.witness.now → PairReady s.args.first.now s.args.witness.now s.args.bits.now s.args.out.now =
-        λ s e f. let p = s.requires in
+    let pair_ready : (a : RunAnswer) → c.args.report.answer ≡ a → by a ≡ lines_of c.args.first.now c.args.witness.now → PairReady c.args.first.now c.args.witness.now c.args.bits.now c.args.out.now =
+        λ a e f. let p = c.requires in
     record {
       first_len = p.first_len;
       witness_len = p.witness_len;
       vars_fit = p.vars_fit;
       room = room_same (ap by e ∙ f) p.room;
     } in
-    pair_ready c c.in-Stopped.is refl
+    pair_ready _ c.in-Stopped.is refl
 
 pub put_refused-requires : goal.put_refused-requires
 put_refused-requires c =
