@@ -33,7 +33,7 @@ if [ "${1:-}" = objects ]; then
     "${rust[@]}" --emit obj -o "$out/bench.o" || exit 1
 else
     library=target/staticlib/libigbezolum.a
-    [ -f "$library" ] || { echo "bench: no $library: run 'rt staticlib igbezolum' first"; exit 2; }
+    [ -f "$library" ] || { echo "bench: no $library: run ./build first"; exit 2; }
     "${rust[@]}" -C "link-args=$link $library" -o "$out/bench" || exit 1
 fi
 echo "bench: compiled with plain Rust$found"

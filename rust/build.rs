@@ -1,5 +1,5 @@
 //! Finds libigbezolum.a: in the folder that IGBEZOLUM_LIB_DIR names, else where `./build` of the repository puts it, else where
-//! `rt staticlib igbezolum` does.
+//! `./build` or the gate put what `rt lib` builds in `crates/igbezolum_c`.
 
 use std::path::{Path, PathBuf};
 use std::{env, process};

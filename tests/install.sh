@@ -1,5 +1,5 @@
 #!/usr/bin/env bash
-# What `./build --prefix DIR` installs, on what `rt check` and `rt staticlib` built: the programs in a folder that was moved, the shared library
+# What `./build --prefix DIR` installs, on what `rt run` and `rt lib` built: the programs in a folder that was moved, the shared library
 # (its name, what it exports, a host on it), and hosts by pkg-config and by CMake. What needs a tool that is not here is left out.
 cd "$(dirname "$0")/.." || exit 2
 room=$(mktemp -d) || exit 2

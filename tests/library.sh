@@ -1,12 +1,12 @@
 #!/usr/bin/env bash
-# The library from C and from Rust, on what `rt staticlib igbezolum` built: the header, the tests of tests/c, also under valgrind, the C
+# The library from C and from Rust, on what `rt lib` built in crates/igbezolum_c: the header, the tests of tests/c, also under valgrind, the C
 # host that README.md shows, by its own commands and with the output shown there, and the Rust wrapper with its tests and its example.
 # What needs a tool that is not here is left out, and a line says so.
 cd "$(dirname "$0")/.." || exit 2
 PATH=$PATH:${HOME:-/root}/.cargo/bin
 archive=target/staticlib/libigbezolum.a
 log=target/library.log
-[ -r "$archive" ] || { echo "library: no $archive: run 'rt staticlib igbezolum' first"; exit 2; }
+[ -r "$archive" ] || { echo "library: no $archive: run ./build first"; exit 2; }
 
 has() {
     command -v "$1" >/dev/null 2>&1 && return

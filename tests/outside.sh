@@ -1,11 +1,11 @@
 #!/usr/bin/env bash
-# The library against the rules written a second time (tests/outside), through its C interface, on what `rt staticlib igbezolum` built.
+# The library against the rules written a second time (tests/outside), through its C interface, on what `rt lib` built in crates/igbezolum_c.
 # First every fault that the comparison knows is put into what the library gave, and must be noticed; then a short comparison under
 # valgrind, and the long one. Words: SEED and how many cases (1 and 60,000 if none are given).
 cd "$(dirname "$0")/.." || exit 2
 PATH=$PATH:${HOME:-/root}/.cargo/bin
 archive=target/staticlib/libigbezolum.a
-[ -r "$archive" ] || { echo "outside: no $archive: run 'rt staticlib igbezolum' first"; exit 2; }
+[ -r "$archive" ] || { echo "outside: no $archive: run ./build first"; exit 2; }
 if ! command -v rustc >/dev/null 2>&1; then
     echo "outside: rustc is not here: left out"
     exit 0

@@ -1,9 +1,9 @@
 #!/usr/bin/env bash
-# ./table, ./why, ./witness, ./shorter, ./groups and ./claims as scripts (tools/program), on what `rt check` built: statuses, what fails to be read or written, where a refusal
+# ./table, ./why, ./witness, ./shorter, ./groups and ./claims as scripts (tools/program), on what `rt` built: statuses, what fails to be read or written, where a refusal
 # is and what was expected, links, several files, help, and, with a stand-in for `rt`, when the program is built and what is told meanwhile.
 cd "$(dirname "$0")/.." || exit 2
 for program in table why show_witness show_shorter show_groups show_claims; do
-    [ -x "target/bin/$program" ] || { echo "programs: no target/bin/$program: run 'rt check $program' first"; exit 2; }
+    [ -x "target/bin/$program" ] || { echo "programs: no target/bin/$program: run .ci/run or ./build first"; exit 2; }
 done
 touch target/bin/{table,why,show_witness,show_shorter,show_groups,show_claims} # they are taken as they are
 room=$(mktemp -d) || exit 2
@@ -358,19 +358,22 @@ done <<<"$rows"
 
 # ---- when it is built. A tree with a stand-in for `rt`, which says what `rt` says and copies the program that is there.
 tree=$room/tree
-mkdir -p "$tree/crates/rules" "$tree/rust/src" "$tree/bin"
+mkdir -p "$tree"/crates/{rules,reader,other,table}/src "$tree/rust/src" "$tree/bin"
+: >"$tree/crates/table/src/main.rt"
 cp -R table why tools "$tree" && cp rust/src/words.txt "$tree/rust/src" && cp target/bin/table "$tree/built"
 printf '# a line a crate\nrules:   # the ground\nreader:  rules io\nother:  rules\ntable: reader io # the program\n' >"$tree/crates.txt"
 cat >"$tree/bin/rt" <<'END'
 #!/bin/sh
-echo "$*" >>calls
-[ "$*" = "check table" ] || exit 2
+echo "$*" >>../../calls
+[ "$*" = run ] && [ "${PWD##*/}" = table ] && [ ! -s /dev/stdin ] || exit 2
 for crate in rules reader table; do
     echo "fn $crate::some: proved"
-    echo "rt: $crate proved (1 s)"
-done
-[ ! -e broken ] || { echo "rt: table NOT PROVED"; exit 1; }
-mkdir -p target/bin && cp -p built target/bin/table
+    echo "crate $crate: modules loaded=0 checked=1"
+    [ $crate != table ] || [ ! -e ../../broken ] || { echo "logic=not-proved"; exit 1; }
+    echo "logic=proved functions=1 statements=trusted"
+done >&2
+mkdir -p out && cp -p ../../built out/table
+echo "refused 3 place 0"
 END
 chmod +x "$tree/bin/rt"
 find "$tree" -exec touch -d '1 hour ago' {} +
@@ -389,7 +392,7 @@ grep -q '^fn reader::some: proved$' "$tree/target/table.log" || failed "target/t
 built 1
 [ -z "$told" ] || failed "with nothing changed it says: $told"
 sleep 1
-touch "$tree/crates/rules"
+touch "$tree/crates/rules/src"
 built 2
 built 2
 sleep 1

@@ -1,11 +1,11 @@
 #!/bin/sh
 # The deepest search on a small stack: 256 variables and no clause, so a try for each, one below the other. Nothing proves the stack,
-# so it is run: target/bin/search_deep (from `rt check search_deep`) with 512 KB must write what crates/search_deep/stdout has.
+# so it is run: target/bin/search_deep (as the gate leaves it there) with 512 KB must write what crates/search_deep/stdout has.
 # Then half of it again and again, to say how much is really needed. The same search stands deepest where target/bin/why (from
-# `rt check why`) asks why a switch is forced. Prints a line for each; exit status 0 if 512 KB are enough.
+# `./build`) asks why a switch is forced. Prints a line for each; exit status 0 if 512 KB are enough.
 cd "$(dirname "$0")/.." || exit 2
 program=target/bin/search_deep
-[ -x "$program" ] || { echo "stack: no $program: run 'rt check search_deep' first"; exit 2; }
+[ -x "$program" ] || { echo "stack: no $program: run .ci/run or ./build first"; exit 2; }
 enough() { [ "$( (ulimit -s "$1" && "$program"; true) 2>/dev/null)" = "$(cat crates/search_deep/stdout)" ]; }
 enough 512 || { echo "stack: 512 KB are too small"; exit 1; }
 least=512
@@ -15,7 +15,7 @@ done
 echo "stack: the deepest search runs on 512 KB; the least that was enough: $least KB"
 
 why=target/bin/why
-[ -x "$why" ] || { echo "stack: no $why: run 'rt check why' first"; exit 2; }
+[ -x "$why" ] || { echo "stack: no $why: run .ci/run or ./build first"; exit 2; }
 explains() { (ulimit -s "$1" && "$why" 256 <crates/vectors/data/none_256.cnf; true) 2>/dev/null | grep -q '^answer 22 calls 2 tries 511 kept 0$'; }
 explains 512 || { echo "stack: 512 KB are too small for why"; exit 1; }
 least=512

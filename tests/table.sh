@@ -1,10 +1,10 @@
 #!/usr/bin/env bash
-# The table program against the rules written a second time (tests/reference), on what `rt check table` built: the examples, the
+# The table program against the rules written a second time (tests/reference), on what `rt` built: the examples, the
 # formulas of crates/vectors, texts as long as a text may be and one byte longer, words that it is started with, and texts at random,
 # with and without literals held. Words: SEED and how many texts (1 and 2,000 if none are given).
 cd "$(dirname "$0")/.." || exit 2
 program=target/bin/table
-[ -x "$program" ] || { echo "table: no $program: run 'rt check table' first"; exit 2; }
+[ -x "$program" ] || { echo "table: no $program: run .ci/run or ./build first"; exit 2; }
 reference=target/reference
 rustc -O -D warnings -o "$reference" tests/reference/reference.rs || exit 2
 

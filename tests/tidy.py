@@ -4,7 +4,7 @@
     tests/tidy.py [CRATE...]     the crates named, or all of crates/
 
 1. A name that a `use` or `ghost use` line brings in is used in that file. Comments and other `use` lines are no use; `pub use` passes its
-   names on. An operator counts by its parts (`_∷_` by `∷`), a module by a name that is taken from it (`tie` by `tie.close`); what stands
+   names on. An operator counts by its parts (`◌∷◌` by `∷`), a module by a name that is taken from it (`tie` by `tie.close`); what stands
    right behind a dot is the part of something else. What a `ghost use` line brings in is for contracts, so only these are looked at.
 2. No line has more than 160 characters.
 3. Every folder of crates/ is in crates.txt.
@@ -24,9 +24,10 @@ ANTT_SKIPPED = re.compile(r'"(?:\\.|[^"\\\n])*"|\{-.*?-\}|(?<![^\s(){}.;,@"«»]
 USE = re.compile(r"^[ \t]*(pub )?(ghost )?use\s+([^{;\n]*?)(?:\.?(?:::)?\{([^}]*)\})?\s*(?: as (\S+?))?;?[ \t]*$", re.M)
 NAME = re.compile(r'[^\s(){}.;,@"«»]+')
 SAMPLES = (  # a text, whether it is antt, and the names that must be found in it
-    ("use A.{x, _∷_, _×_, f as g}\ny = x × g x\n", True, ["_∷_"]),
+    ("use A.{x, ◌∷◌, ◌×◌, f as g}\ny = x × g x\n", True, ["◌∷◌"]),
     ("use A.B as b\nuse A.C as c\nuse D.{d,\n    e}\ny = b.d e -- d\n", True, ["c", "d"]),
-    ("ghost use A.{_+_, p};\nfn f(x: u8) -> u8\n    ensures { λ r. ⌜ p r ⌝ }\n{\n    x + 1\n}\n", False, ["_+_"]),
+    ("ghost use A.{◌+◌, p};\nfn f(x: u8) -> u8\n    ensures { p result }\n{\n    x + 1\n}\n", False, ["◌+◌"]),
+    ("ghost use A.{a_b, c};\nfn f(x: u8) -> u8\n    ensures one { a result }\n    ensures two { b c }\n{\n    x\n}\n", False, ["a_b"]),
     ("use a::B;\nuse a::C;\nfn f(c: C) {} // B\n", False, ["B"]),
 )
 
@@ -51,8 +52,10 @@ def words(text, antt):
 
 def is_used(name, plain):
     """Whether a name of antt is among the words: whole, or as an operator by its parts, also with one argument place."""
-    parts = [p for p in name.split("_") if p]
-    return name in plain or all(any(w in plain for w in (p, "_" + p, p + "_", "_" + p + "_")) for p in parts)
+    if "◌" not in name:
+        return name in plain
+    parts = [p for p in name.split("◌") if p]
+    return name in plain or all(any(w in plain for w in (p, "◌" + p, p + "◌", "◌" + p + "◌")) for p in parts)
 
 
 def contracts(text):
@@ -102,7 +105,7 @@ def main(named):
     wrong, files = 0, 0
     crates = sorted(os.listdir(os.path.join(TOP, "crates")))
     with open(os.path.join(TOP, "crates.txt"), encoding="utf-8") as listed:
-        names = {line.partition("#")[0].partition(":")[0].strip() for line in listed}
+        names = {line.partition("#")[0].partition(":")[0].partition(" ")[0] for line in listed}
     for crate in crates:
         if crate not in names:
             print(f"tidy: crates/{crate} is not in crates.txt")

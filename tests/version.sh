@@ -15,7 +15,7 @@ macro() {
     sed -n "s/^#define IGB_VERSION_$1 \([0-9]*\)$/\1/p" include/igbezolum.h
 }
 is include/igbezolum.h "$(macro MAJOR).$(macro MINOR).$(macro PATCH)" "$version"
-is crates/igbezolum/specs/Version.antt "$(sed -n 's/^versionNumber = versionOf //p' crates/igbezolum/specs/Version.antt)" "$major $minor $patch"
+is crates/igbezolum/specs/Version.antt "$(sed -n 's/^version_number = version_of //p' crates/igbezolum/specs/Version.antt)" "$major $minor $patch"
 is crates/igbezolum/src/version.rt "$(sed -n 's/^const VERSION: u32 = \([0-9]*\);$/\1/p' crates/igbezolum/src/version.rt)" $((major * 10000 + minor * 100 + patch))
 is rust/Cargo.lock "$(awk '/^name = "igbezolum"$/{on = 1} on && /^version/{gsub(/"/, ""); print $3; exit}' rust/Cargo.lock)" "$version"
 is CHANGES.md "$(sed -n 's/^## \([0-9]*\.[0-9]*\.[0-9]*\):.*/\1/p' CHANGES.md | head -1)" "$version"

@@ -1,10 +1,10 @@
 #!/usr/bin/env bash
-# The program `why` against the rules written a second time (tests/reference), on what `rt check why` built: the examples, formulas of
+# The program `why` against the rules written a second time (tests/reference), on what `rt` built: the examples, formulas of
 # crates/vectors, and texts at random; what it says of a word that is no literal; and, where picosat is installed, that what is kept for 200
 # formulas forces, and less one clause does not. Words: SEED and how many texts (1 and 300 if none are given).
 cd "$(dirname "$0")/.." || exit 2
 program=target/bin/why
-[ -x "$program" ] || { echo "why: no $program: run 'rt check why' first"; exit 2; }
+[ -x "$program" ] || { echo "why: no $program: run .ci/run or ./build first"; exit 2; }
 reference=target/reference
 rustc -O -D warnings -o "$reference" tests/reference/reference.rs || exit 2
 

@@ -1,10 +1,10 @@
 #!/usr/bin/env bash
-# The program `show_witness` against the rules written a second time (tests/reference), on what `rt check show_witness` built: the examples,
+# The program `show_witness` against the rules written a second time (tests/reference), on what `rt` built: the examples,
 # formulas of crates/vectors, and texts at random; each pair is looked at too: two models that differ on the variable. And what it says of a
 # word that is no number. Words: SEED and how many texts (1 and 300 if none are given).
 cd "$(dirname "$0")/.." || exit 2
 program=target/bin/show_witness
-[ -x "$program" ] || { echo "witness: no $program: run 'rt check show_witness' first"; exit 2; }
+[ -x "$program" ] || { echo "witness: no $program: run .ci/run or ./build first"; exit 2; }
 reference=target/reference
 rustc -O -D warnings -o "$reference" tests/reference/reference.rs || exit 2
 

@@ -1,3 +1,5 @@
+#![tactic(auto)]
+
 // The numbers that a program is started with. A number is written as in a text: docs/RULES.md, "The text". No contract can say what a program
 // is started with; what a word says is proved.
 ghost use Rattle.std.specs.Prelude.{◌≡◌};
@@ -6,6 +8,8 @@ ghost use Rattle.reader.specs.Words.{token_of};
 ghost use Rattle.arguments.specs.Number.{argument_of};
 
 use reader::token::{Token, token_of, value_of};
+use std::env::FillError;
+use std::rt::Env;
 
 // What one of the words that a program is started with says.
 #[derive(Drop)]
@@ -32,11 +36,11 @@ pub fn number_of(word: &[u8]) -> Argument
 }
 
 // The number that word i says; word 0 is the program's own name. One that is longer than 16 bytes is no number.
-pub fn number_at(i: usize) -> Argument {
-    if os::arg_count() <= i {
-        return Argument::Missing;
-    }
+pub fn number_at(rt: &impl Env, i: usize) -> Argument {
     let mut word = [0u8; 16];
-    let n = os::arg(i, &mut word);
-    number_of(&word[..n])
+    match rt.arg(i, &mut word) {
+        Ok(n) => number_of(&word[..n]),
+        Err(FillError::TooLong) => Argument::NoNumber,
+        Err(FillError::NotPresent) => Argument::Missing,
+    }
 }

@@ -31,13 +31,7 @@ fn close_numbers(report: rules::CloseReport) -> IgbClosing
 
 // What follows from an entry list with literals held by closing alone, into the values that are lent, and in how many rounds.
 // Rules out: rounds and variables set exchanged; the closing of the list alone.
-#[unsafe(no_mangle)]
-pub extern "C" fn igb_close(
-    entries: &[i32],
-    vars: u32,
-    held: &[i32],
-    values: &mut [u8],
-) -> IgbClosing
+pub fn igb_close(entries: &[i32], vars: u32, held: &[i32], values: &mut [u8]) -> IgbClosing
     ensures { ClosesIn (close_given entries.now vars held.now values.old) result values.new }
 {
     let report = closing::close(entries, vars, held, values);

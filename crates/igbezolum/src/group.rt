@@ -35,8 +35,7 @@ fn groups_numbers(reading: rules::GroupsReading) -> IgbGroups
 
 // Reads a file of groups into the entries and the sizes that are lent.
 // Rules out: the number of groups for that of variables; the file's own clauses counted alone.
-#[unsafe(no_mangle)]
-pub extern "C" fn igb_read_groups(text: &[u8], entries: &mut [i32], sizes: &mut [u8]) -> IgbGroups
+pub fn igb_read_groups(text: &[u8], entries: &mut [i32], sizes: &mut [u8]) -> IgbGroups
     ensures { ReadsGroupsIn (groups_given text.now entries.old sizes.old) result entries.new sizes.new }
 {
     let reading = groups::read_groups(text, entries, sizes);
@@ -45,8 +44,7 @@ pub extern "C" fn igb_read_groups(text: &[u8], entries: &mut [i32], sizes: &mut 
 
 // The printed table of a file of groups, put at the start of the buffer that is lent; how many bytes it has.
 // Rules out: one table for every text; a length that is not the table's.
-#[unsafe(no_mangle)]
-pub extern "C" fn igb_groups_table(text: &[u8], out: &mut [u8]) -> usize
+pub fn igb_groups_table(text: &[u8], out: &mut [u8]) -> usize
     ensures { PrintsGroups text.now out.old result out.new }
 {
     groups_printed::print(text, out)

@@ -1,6 +1,8 @@
-// The functions that C and Rust link (libigbezolum.a): the reader, the run, one valid setup, what follows at once, why a literal is forced,
+#![tactic(auto)]
+
+// The functions that C and Rust link, as a library: the reader, the run, one valid setup, what follows at once, why a literal is forced,
 // two models that differ on a variable, the shorter file, the reader of groups, a check of claims, and the printed tables, each thin over its crate.
-// They answer in the numbers of docs/RULES.md, "What comes back"; include/igbezolum.h is the page for their callers.
+// They answer in the numbers of docs/RULES.md, "What comes back"; `igbezolum_c` exports each under its name (libigbezolum.a).
 pub mod close;
 pub mod group;
 pub mod pair;
@@ -72,8 +74,7 @@ fn report_numbers(report: rules::Report) -> IgbReport
 
 // Reads a text into the entries that are lent.
 // Rules out: C for V; the count where the place belongs.
-#[unsafe(no_mangle)]
-pub extern "C" fn igb_read(text: &[u8], entries: &mut [i32]) -> IgbReading
+pub fn igb_read(text: &[u8], entries: &mut [i32]) -> IgbReading
     ensures { ReadsIn text.now entries.old result entries.new }
 {
     let reading = reader::read(text, entries);
@@ -82,8 +83,7 @@ pub extern "C" fn igb_read(text: &[u8], entries: &mut [i32]) -> IgbReading
 
 // The run over an entry list with literals held, into the statuses, the calls, the ways, the hints and the log that are lent.
 // Rules out: the free counted as forced; a run under a budget that was not given.
-#[unsafe(no_mangle)]
-pub extern "C" fn igb_run(
+pub fn igb_run(
     entries: &[i32],
     vars: u32,
     held: &[i32],
@@ -116,8 +116,7 @@ pub extern "C" fn igb_run(
 
 // One valid setup of an entry list with literals held, into the values that are lent.
 // Rules out: a setup without a held literal; a call under a budget that was not given.
-#[unsafe(no_mangle)]
-pub extern "C" fn igb_setup(
+pub fn igb_setup(
     entries: &[i32],
     vars: u32,
     held: &[i32],
@@ -132,8 +131,7 @@ pub extern "C" fn igb_setup(
 
 // The printed table of a text with literals held, put at the start of the buffer that is lent; how many bytes it has.
 // Rules out: one table for every text; a length that is not the table's.
-#[unsafe(no_mangle)]
-pub extern "C" fn igb_table(text: &[u8], held: &[i32], out: &mut [u8]) -> usize
+pub fn igb_table(text: &[u8], held: &[i32], out: &mut [u8]) -> usize
     ensures { Prints text.now held.now out.old result out.new }
 {
     printed::print(text, held, out)

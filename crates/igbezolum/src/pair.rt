@@ -7,8 +7,7 @@ use crate::{IgbReport, report_numbers};
 
 // The first model of a run and the witness of a free variable, as literals into the two buffers that are lent.
 // Rules out: the two models exchanged; the numbers of a run under another budget.
-#[unsafe(no_mangle)]
-pub extern "C" fn igb_witness(
+pub fn igb_witness(
     entries: &[i32],
     vars: u32,
     held: &[i32],
@@ -36,8 +35,7 @@ pub extern "C" fn igb_witness(
 
 // The same for a text, printed: two lines, put at the start of the buffer that is lent; how many bytes they have.
 // Rules out: the lines for another variable; a length that is not theirs.
-#[unsafe(no_mangle)]
-pub extern "C" fn igb_witness_text(text: &[u8], variable: u32, out: &mut [u8]) -> usize
+pub fn igb_witness_text(text: &[u8], variable: u32, out: &mut [u8]) -> usize
     ensures { PrintsWitness text.now variable out.old result out.new }
 {
     witness_printed::print(text, variable, out)

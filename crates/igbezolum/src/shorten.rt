@@ -37,8 +37,7 @@ fn shorter_numbers(report: rules::ShorterReport) -> IgbShorter
 
 // The shorter file of an entry list, into the text that is lent: a run, and the formula with what it has settled folded in.
 // Rules out: budget and chunk limit exchanged; the free counted as forced.
-#[unsafe(no_mangle)]
-pub extern "C" fn igb_shorter(
+pub fn igb_shorter(
     entries: &[i32],
     vars: u32,
     budget: u32,

@@ -26,8 +26,7 @@ fn verdict_numbers(answer: rules::ClaimsAnswer) -> IgbVerdict
 
 // Whether a file of claims holds of an entry list.
 // Rules out: 0 for a literal that is not forced; the answer where the place belongs.
-#[unsafe(no_mangle)]
-pub extern "C" fn igb_check_claims(entries: &[i32], vars: u32, text: &[u8]) -> IgbVerdict
+pub fn igb_check_claims(entries: &[i32], vars: u32, text: &[u8]) -> IgbVerdict
     ensures { ChecksIn (claims_given entries.now vars text.now) result }
 {
     let answer = claims::check_claims(entries, vars, text);

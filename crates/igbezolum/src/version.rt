@@ -7,8 +7,7 @@ const VERSION: u32 = 1100;
 
 // The version as one number.
 // Rules out: the number of another version.
-#[unsafe(no_mangle)]
-pub extern "C" fn igb_version() -> u32
+pub fn igb_version() -> u32
     ensures { result ≡ version_number }
 {
     VERSION

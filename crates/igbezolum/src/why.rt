@@ -32,8 +32,7 @@ fn why_numbers(report: rules::WhyReport) -> IgbWhyReport
 
 // Which clauses of an entry list alone force a literal, into the marks that are lent, or a model that has it false, into the values.
 // Rules out: calls and tries exchanged; the answer for the literal's negation.
-#[unsafe(no_mangle)]
-pub extern "C" fn igb_why(
+pub fn igb_why(
     entries: &[i32],
     vars: u32,
     literal: i32,

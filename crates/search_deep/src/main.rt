@@ -1,11 +1,13 @@
+#![tactic(auto)]
+
 // The deepest search: 256 variables and no clause, so that a try is made for each, one below the other. It prints what the call ends
 // with, as in the log (1 model, 2 none, 3 stopped), and the tries. tests/stack.sh runs it on a stack of 512 KB.
 use formula::starts::find_starts;
-use libc::STDOUT_FILENO;
 use search::meter::Meter;
 use search::whole::whole_call;
+use std::io;
 
-fn main() {
+fn main(rt: HostRuntime) -> io::Result<()> {
     let list = [0i32; 1];
     let none = &list[..0];
     let mut starts = [0u16; 1];
@@ -17,13 +19,7 @@ fn main() {
     };
     let end = whole_call(none, &starts, none, 0, &mut values, meter);
     let outcome = end.outcome;
-    io::write_all(STDOUT_FILENO, b"outcome ");
-    io::print_decimal(
-        STDOUT_FILENO,
-        rules::numbers::outcome_number(outcome) as u64,
-    );
-    io::write_all(STDOUT_FILENO, b" tries ");
+    let number = rules::numbers::outcome_number(outcome);
     let tries = end.meter.spent;
-    io::print_decimal(STDOUT_FILENO, tries as u64);
-    io::write_all(STDOUT_FILENO, b"\n");
+    println!(rt; "outcome {number} tries {tries}")
 }

@@ -1,3 +1,5 @@
+#![tactic(auto)]
+
 // The program that checks what another tool claims (docs/RULES.md, "The printed verdict"): on standard input a text and, right behind it, the file of
 // claims; its argument is how many bytes the text has. One byte more than each may have is kept, so that a longer one is refused with 2.
 use arguments::{Argument, number_at};
@@ -5,29 +7,29 @@ use formula::lit::{sign, var_of};
 use rules::Lit;
 use streams::{complain, read_input, write_output};
 
-fn write_answer(text: &[u8], claims: &[u8]) {
+fn write_answer(rt: &(impl Print + Eprint), text: &[u8], claims: &[u8]) {
     let mut out = [0u8; rules::MAX_CLAIMS_LINE];
     let n = claims_printed::print(text, claims, &mut out);
-    write_output(&out[..n]);
+    write_output(rt, &out[..n]);
 }
 
 // The first `length` bytes are the text.
-fn split(both: &[u8], length: usize) {
+fn split(rt: &(impl Print + Eprint), both: &[u8], length: usize) {
     if both.len() < length {
-        complain(b"claims", b"the text is shorter than is said");
+        complain(rt, b"claims", b"the text is shorter than is said");
         return;
     }
-    write_answer(&both[..length], &both[length..]);
+    write_answer(rt, &both[..length], &both[length..]);
 }
 
-fn answer(length: u32) {
+fn answer(rt: &(impl Input + Print + Eprint), length: u32) {
     let mut both = [0u8; 2 * (rules::MAX_TEXT + 1)];
-    let input = read_input(&mut both);
+    let input = read_input(rt, &mut both);
     if input.failed {
         return;
     }
     let n = input.count;
-    split(&both[..n], length as usize);
+    split(rt, &both[..n], length as usize);
 }
 
 // A number below 0 is no length, as no text is that short.
@@ -35,11 +37,11 @@ fn length_of(number: Lit) -> u32 {
     if sign(number) { var_of(number).0 } else { 0 }
 }
 
-fn main() {
-    let argument = number_at(1);
+fn main(rt: HostRuntime) {
+    let argument = number_at(&rt, 1);
     match argument {
-        Argument::Missing => complain(b"claims", b"the length of the text is missing"),
-        Argument::NoNumber => complain(b"claims", b"the length of the text is no number"),
-        Argument::Is(number) => answer(length_of(Lit(number))),
+        Argument::Missing => complain(&rt, b"claims", b"the length of the text is missing"),
+        Argument::NoNumber => complain(&rt, b"claims", b"the length of the text is no number"),
+        Argument::Is(number) => answer(&rt, length_of(Lit(number))),
     }
 }

@@ -1,19 +1,21 @@
+#![tactic(auto)]
+
 // The groups program (docs/RULES.md, "The printed groups"): reads a file of groups from standard input and prints its table. One byte more than a text
 // may have is kept, so that a longer one is refused with 2.
 use streams::{read_input, write_output};
 
-fn write_table(text: &[u8]) {
+fn write_table(rt: &(impl Print + Eprint), text: &[u8]) {
     let mut out = [0u8; rules::MAX_GROUPS_TABLE];
     let n = groups_printed::print(text, &mut out);
-    write_output(&out[..n]);
+    write_output(rt, &out[..n]);
 }
 
-fn main() {
+fn main(rt: HostRuntime) {
     let mut text = [0u8; rules::MAX_TEXT + 1];
-    let input = read_input(&mut text);
+    let input = read_input(&rt, &mut text);
     if input.failed {
         return;
     }
     let n = input.count;
-    write_table(&text[..n]);
+    write_table(&rt, &text[..n]);
 }

@@ -1,9 +1,12 @@
+#![tactic(auto)]
+
 // The table program (docs/RULES.md, "The printed table"): reads a text from standard input and prints its table, with the literals held that it is
 // started with. One byte more than a text may have is kept, and one literal more than may be held, so that more is refused with 2 and with 15.
 ghost use Rattle.std.specs.Prelude.{◌≤◌, length};
 ghost use Rattle.table.specs.Words.{Kept};
 
 use arguments::{Argument, number_at};
+use std::rt::Env;
 use streams::{complain, read_input};
 
 // What the words say that the program is started with.
@@ -26,17 +29,14 @@ fn store(held: &mut [i32], n: usize, number: i32) -> usize
 }
 
 // All words but the first, which is the program's own name: numbers, of which as many are stored as there is room for.
-fn read_held(held: &mut [i32]) -> Words
+fn read_held(rt: &impl Env, held: &mut [i32]) -> Words
     ensures { Kept result (length held.new) }
 {
-    let count = os::arg_count();
     let mut n: usize = 0;
-    let mut i: usize = 1;
-    while i < count {
-        let word = number_at(i);
-        i += 1;
+    for i in 1..usize::MAX {
+        let word = number_at(rt, i);
         match word {
-            Argument::Missing => return Words::NoNumber,
+            Argument::Missing => break,
             Argument::NoNumber => return Words::NoNumber,
             Argument::Is(number) => {
                 n = store(held, n, number);
@@ -46,21 +46,21 @@ fn read_held(held: &mut [i32]) -> Words
     Words::Numbers(n)
 }
 
-fn show(held: &[i32]) {
+fn show(rt: &(impl Input + Print + Eprint), held: &[i32]) {
     let mut text = [0u8; rules::MAX_TEXT + 1];
-    let input = read_input(&mut text);
+    let input = read_input(rt, &mut text);
     if input.failed {
         return;
     }
     let n = input.count;
-    output::write_table(&text[..n], held);
+    output::write_table(rt, &text[..n], held);
 }
 
-fn main() {
+fn main(rt: HostRuntime) {
     let mut held = [0i32; rules::MAX_HELD + 1];
-    let words = read_held(&mut held);
+    let words = read_held(&rt, &mut held);
     match words {
-        Words::NoNumber => complain(b"table", b"a held literal is no number"),
-        Words::Numbers(n) => show(&held[..n]),
+        Words::NoNumber => complain(&rt, b"table", b"a held literal is no number"),
+        Words::Numbers(n) => show(&rt, &held[..n]),
     }
 }

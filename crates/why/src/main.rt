@@ -1,30 +1,32 @@
+#![tactic(auto)]
+
 // The program that says why a switch is greyed out (docs/RULES.md, "The printed reason"): a literal as its argument, a text on standard
 // input. One byte more than a text may have is kept, so that a longer one is refused with 2.
 use arguments::{Argument, number_at};
 use rules::Lit;
 use streams::{complain, read_input, write_output};
 
-fn write_answer(text: &[u8], literal: Lit) {
+fn write_answer(rt: &(impl Print + Eprint), text: &[u8], literal: Lit) {
     let mut out = [0u8; rules::MAX_WHY];
     let n = why_printed::print(text, literal, &mut out);
-    write_output(&out[..n]);
+    write_output(rt, &out[..n]);
 }
 
-fn answer(literal: Lit) {
+fn answer(rt: &(impl Input + Print + Eprint), literal: Lit) {
     let mut text = [0u8; rules::MAX_TEXT + 1];
-    let input = read_input(&mut text);
+    let input = read_input(rt, &mut text);
     if input.failed {
         return;
     }
     let n = input.count;
-    write_answer(&text[..n], literal);
+    write_answer(rt, &text[..n], literal);
 }
 
-fn main() {
-    let argument = number_at(1);
+fn main(rt: HostRuntime) {
+    let argument = number_at(&rt, 1);
     match argument {
-        Argument::Missing => complain(b"why", b"a literal is missing"),
-        Argument::NoNumber => complain(b"why", b"the literal is no number"),
-        Argument::Is(number) => answer(Lit(number)),
+        Argument::Missing => complain(&rt, b"why", b"a literal is missing"),
+        Argument::NoNumber => complain(&rt, b"why", b"the literal is no number"),
+        Argument::Is(number) => answer(&rt, Lit(number)),
     }
 }
