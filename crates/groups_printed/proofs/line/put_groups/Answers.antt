@@ -1,5 +1,4 @@
--- `line::put_groups` meets its contract. The invariant of its loop: the lines of i groups are put, and with the others behind them all are.
--- The measure is how many groups are left. Assumes nothing.
+-- `line::put_groups` meets its contract. Assumes nothing.
 use Prim.Native.Nat.{◌+◌, ◌-◌, ◌≤◌}
 use native.Mathlib.Omega.{arith}
 use lib.ListN.{length, get_or, drop, length-drop}

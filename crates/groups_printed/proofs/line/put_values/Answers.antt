@@ -1,5 +1,4 @@
--- `line::put_values` meets its contract. The invariant of its loop: the first i lines are put, and with the others behind them all are.
--- The measure is what is left of the statuses. Assumes nothing.
+-- `line::put_values` meets its contract. Assumes nothing.
 use Prim.Native.Nat.{◌-◌}
 use lib.ListN.{length}
 use borrow.Author.Rules.{rules}

@@ -1,5 +1,4 @@
--- `clauses::put_clauses` meets its contract. The invariant of its loop: the lines of the first i clauses are put, and with the others
--- behind them all are. The measure is what is left. Assumes nothing.
+-- `clauses::put_clauses` meets its contract. Assumes nothing.
 use mathlib.Core.Path.{◌≡◌, sym, ◌∙◌, ap}
 use mathlib.Core.List.{[]}
 use Prim.Native.Nat.{◌+◌, ◌-◌, ◌<◌}

@@ -1,5 +1,4 @@
--- `line::put_literals` meets its contract. The invariant of its loop: the first i literals are put, and with the others behind them
--- all are. The measure is what is left of the clause. Assumes nothing.
+-- `line::put_literals` meets its contract. Assumes nothing.
 use mathlib.Core.Path.{ap}
 use Prim.Native.Nat.{◌-◌}
 use lib.IntN.{pos}

@@ -1,4 +1,4 @@
--- `pair::put_bits` meets its contract. The invariant of its loop: the front is filled. Assumes nothing.
+-- `pair::put_bits` meets its contract. Assumes nothing.
 use mathlib.Core.Path.{◌≡◌, refl, sym, ◌∙◌, ap}
 use mathlib.Core.List.{map}
 use Prim.Native.Nat.{◌-◌}
