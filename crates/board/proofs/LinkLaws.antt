@@ -1,7 +1,7 @@
 -- The pass that links all entries, as an invariant: with e entries left the chains are those of the clauses behind them.
 --
 --   Linking, linking_start, linking_zero, linking_literal, linking_skip, linking_done     the invariant begins, goes on, pays off
---   link_asks, literal_up_to      what linking one entry requires; zero-pos: a clause is left to end
+--   link_asks, literal_up_to      what linking one entry requires; zero_pos: a clause is left to end
 --
 -- Assumes nothing.
 use mathlib.Core.Path.{◌≡◌, refl, ◌∙◌, ap}

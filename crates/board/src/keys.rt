@@ -40,7 +40,7 @@ pub fn change_all(clauses: &[u16], keys: &mut [u32], hot: &mut [u16], add: u32, 
 
 // The same at each clause that holds the literal with number k, and at the constraint, whose key is the last one, if it does.
 // Rules out: the constraint forgotten; the list of the negation.
-// Required of: literal::set_literal and literal::unset_last, by set-asks and unset-asks; first::count_all.
+// Required of: literal::set_literal and literal::unset_last, by set_asks and unset_asks; first::count_all.
 pub fn change_at(
     lists: &[u16],
     holders: &[u16],

@@ -1,4 +1,6 @@
 // The verdict on a file of claims, printed (docs/RULES.md, "The printed verdict"), into a buffer that is lent.
+#![tactic(auto)]
+
 ghost use Rattle.texts.specs.ClaimsPrinted.{PrintsClaims};
 
 mod verdict;

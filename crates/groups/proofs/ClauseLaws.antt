@@ -1,6 +1,6 @@
 -- The laws of the loop over the entries of a file's own clauses (src/clauses.rt).
 --
---   clausing_start, clausing-far, clausing_next, clausing_step     so many entries are read, and stored if there is room
+--   clausing_start, clausing_far, clausing_next, clausing_step     so many entries are read, and stored if there is room
 --   clausing_refused, clausing_short, clausing_done     the ways it ends
 --
 -- Assumes nothing.

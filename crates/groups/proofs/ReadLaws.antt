@@ -8,7 +8,7 @@
 --   clauses_refused, clauses_complete, sizes_refused, sizes_counted     how they were read
 --   body_refused, sizes_judged, sizes_small, sizes_stored     the sizes and what is behind them
 --   sizes-cleared                 zeros behind the sizes
---   read_short_entries, read_short_sizes, read_long, read_done     the ways a reading ends; stores_entries, stores-groups: its counts
+--   read_short_entries, read_short_sizes, read_long, read_done     the ways a reading ends; stores_entries, stores_groups: its counts
 --
 -- Assumes nothing.
 use mathlib.Core.Path.{◌≡◌, refl, sym, ◌∙◌, ap, ap₂, subst}

@@ -1,4 +1,6 @@
 // The table of a file of groups (docs/RULES.md, "The printed groups"), put into a buffer that is lent.
+#![tactic(auto)]
+
 ghost use Rattle.texts.specs.GroupsPrinted.{PrintsGroups};
 
 mod line;

@@ -64,7 +64,7 @@ fn put_run(
 
 // The table of an expanded list: the buffers are made here, for up to 256 variables.
 // Rules out: the table of another list; a byte behind the table.
-// Required of: put_text, for the list of an accepted file (groups-run-accepted).
+// Required of: put_text, for the list of an accepted file (groups_run_accepted).
 fn put_list(out: &mut [u8], entries: &[i32], sizes: &[u8], vars: u32) -> usize
     requires { ListReady sizes.now vars entries.now out.old }
     ensures { Put 0 (groups_table_of_list sizes.now entries.now) out.old result out.new }
@@ -90,7 +90,7 @@ fn put_list(out: &mut [u8], entries: &[i32], sizes: &[u8], vars: u32) -> usize
 
 // The table of a text: the line of its refusal, or the table of its expanded list.
 // Rules out: a table for a refused text; the line of another refusal.
-// Required of: print, by groups-table-bound.
+// Required of: print, by groups_table_bound.
 pub fn put_text(out: &mut [u8], text: &[u8], entries: &mut [i32], sizes: &mut [u8]) -> usize
     requires { Room 0 (groups_table_of text.now) out.old × (length entries.old ≡ max_entries) × (length sizes.old ≡ max_groups) }
     ensures { Put 0 (groups_table_of text.now) out.old result out.new }

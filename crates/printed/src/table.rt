@@ -80,7 +80,7 @@ fn put_run(
 
 // The table of an entry list: the buffers are made here, for up to 256 variables.
 // Rules out: the table of another list; a byte behind the table.
-// Required of: put_text, for the list of an accepted text (table-formed).
+// Required of: put_text, for the list of an accepted text (table_formed).
 fn put_list(out: &mut [u8], entries: &[i32], vars: u32, held: &[i32]) -> usize
     requires { ListReady vars entries.now held.now out.old }
     ensures { Put 0 (table_of_list vars entries.now held.now) out.old result out.new }
@@ -106,7 +106,7 @@ fn put_list(out: &mut [u8], entries: &[i32], vars: u32, held: &[i32]) -> usize
 
 // The table of a text: the line of its refusal, or the table of its entries with the held literals.
 // Rules out: a table for a refused text; the line of another refusal.
-// Required of: print, by table-bound.
+// Required of: print, by table_bound.
 pub fn put_text(out: &mut [u8], text: &[u8], held: &[i32], entries: &mut [i32]) -> usize
     requires { Room 0 (table_of text.now held.now) out.old × (length entries.old ≡ max_entries) }
     ensures { TextPut text.now held.now entries.old out.old

@@ -3,7 +3,7 @@
 --   trim_step, trim_done          one byte less behind, or the last byte is no blank
 --   eqs-length, Same, same_start, same_step, same_other, same_done     a word is the wanted one, byte by byte
 --   Cuts, cuts_within             a line with no blanks behind, from gap to gap, within the line
---   line_bad, line_large, line_fits     the text by what its header line says; large_vars, large_clauses, small-both: 3 before 4
+--   line_bad, line_large, line_fits     the text by what its header line says; large_vars, large_clauses, small_both: 3 before 4
 --   header_four, words_more       a line with no blanks behind: four words, as they are judged, or more
 --
 -- Assumes nothing.

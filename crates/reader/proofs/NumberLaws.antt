@@ -2,7 +2,7 @@
 --
 --   number_bad, number_good       what the answer says of the word
 --   not_number_none, not_number_long, not_number_byte     a word of no byte or of ten, or with a byte that is no digit
---   Digits, digits_start, digits_step     the digits before index i say n; digits-small: below ten to the i
+--   Digits, digits_start, digits_step     the digits before index i say n; digits_small: below ten to the i
 --   digits_done                   at the end n is what the word says
 --
 -- Assumes nothing.

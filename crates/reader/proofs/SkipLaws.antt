@@ -3,7 +3,7 @@
 --   comment_none, comment_here    whether a line that starts at a place is a comment
 --   past_blank, past_lf, past_comment     behind a blank; an LF with no comment behind it; one with a comment
 --   passed_start, passed_step     what is passed over, blank by blank
---   tokens_here                   the token at a place, and the tokens behind it; token-lt: it has a byte
+--   tokens_here                   the token at a place, and the tokens behind it; token_lt: it has a byte
 --
 -- Assumes nothing.
 use mathlib.Core.Path.{◌≡◌, refl, sym, ◌∙◌, ap, ap₂, subst}

@@ -6,7 +6,7 @@
 --   progress_refused, progress_ended          what is stored when the tokens end
 --   stores_of, stores_refused     a judgement that is another; a refusal before any entry
 --   late_lines, written_late      the text itself is never refused with 1 or 2, so the first 4,096 entries are written
---   read_short, read_long, read_done          the three ways a reading ends; stores-count: its count is at most 4,096
+--   read_short, read_long, read_done          the three ways a reading ends; stores_count: its count is at most 4,096
 --
 -- Assumes nothing.
 use mathlib.Core.Path.{◌≡◌, refl, sym, ◌∙◌, ap, ap₂}

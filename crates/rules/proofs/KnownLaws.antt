@@ -4,7 +4,7 @@
 --   Known             what is known of the models, by the statuses
 --   first_model_is    the first model is one
 --   extends_forced    every model has the values forced so far
---   other_byte_valued  the other of the two bytes; flipped-model: a model with one variable flipped
+--   other_byte_valued  the other of the two bytes; flipped_model: a model with one variable flipped
 --   known_more        one more model found
 --   known_filtered    compare, then flip
 --   known_none        a chunk without a model

@@ -7,8 +7,8 @@
 --   same_test                     two tests are the same if each follows from the other
 --   and_left, and_right           the two halves of `&&`
 --   or_cases, or_left, or_right   one half of `||`, and both where it is false
---   any_sound, any_complete       any: one passes; none_of_any, any-of-none: no one passes
---   all_sound, all_complete       all: each passes; all-false: one does not
+--   any_sound, any_complete       any: one passes; none_of_any, any_of_none: no one passes
+--   all_sound, all_complete       all: each passes; all_false: one does not
 --   keep_sound, keep_complete     the kept are the elements that pass
 --   any_append, all_append, all_append_of, keep_append, count_append, sum_of_append     over `++`
 --   any_cong, all_cong, keep_cong, count_cong, sum_of_cong     functions that agree on the elements

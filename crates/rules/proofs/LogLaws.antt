@@ -3,7 +3,7 @@
 --   log_begun         the row of the first call
 --   log_more          one row more
 --   logged            the log at every progress that a run reaches
---   stop_log          the row of a stopped call; log-counts: the same log by equal counts
+--   stop_log          the row of a stopped call; log_counts: the same log by equal counts
 --   blank_counts      the counts of statuses that are all open
 --   first_metered, chunk_metered     the meter in a call
 --   calls_opens_le    calls begun and candidates left are at most V + 1 together

@@ -4,10 +4,10 @@
 --   proper_set, proper_assign, proper_of_total     every byte is 0, 1 or 2
 --   byte_cases                    a byte that is set is 1 or 2
 --   true_byte-set, true_byte_le     the byte of a literal is 1 or 2
---   set_cases, value_at-set_same   what stands at an index after a store; set-elim: what holds of every byte then
+--   set_cases, value_at-set_same   what stands at an index after a store; set_elim: what holds of every byte then
 --   extends_refl, extends_trans, extends_antisym     extending is an order
 --   extends_set, extends_assign   giving an unset variable a value extends
---   set_extends, assign_extends   what has the value too extends the values with it; valueAt-set-extends: and the other way
+--   set_extends, assign_extends   what has the value too extends the values with it; value_at-set_extends: and the other way
 --   is_unset_of_is_true, is_true-assign, is_true_frame, is_true_mono     a literal under values that extend
 --   false_byte_lem, not_true_of_false a literal that is set and not true has its false byte; and back
 --   has_true_mono, satisfies_mono  what is true stays true

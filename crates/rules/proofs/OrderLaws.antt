@@ -2,9 +2,9 @@
 -- the call are those of ClosingOrder and SearchOrder; what remains is that nothing else of a run looks at the order. The constraint is the
 -- same in both.
 --
---   same_rules_behind     the same rules with the same clauses behind them; same-rules-held: with the same literals held
+--   same_rules_behind     the same rules with the same clauses behind them; same_rules_held: with the same literals held
 --   first_call_order, chunk_call_order     the calls of a run
---   can_flip_order     a flip, free or not; flips-order: all of them
+--   can_flip_order     a flip, free or not; flips_order: all of them
 --   after_model_order  what a call with a model leaves: compare, flip, the records and the row
 --   chunks_in_order    the calls after the first, chunk by chunk
 --   run_order         the run

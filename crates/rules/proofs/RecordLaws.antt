@@ -7,7 +7,7 @@
 --   count_compare, count_flip, count_chunk, count_none     the row of this call counts what it settled
 --   Shape                         the three kinds of records; shape_call, shape_open, shape_free: what each says of its call
 --   recorded                      what is said of them follows
---   RecordsAt         what is known of the records; same_length, status_was, in-shape: there are as many, with these statuses
+--   RecordsAt         what is known of the records; same_length, status_was, in_shape: there are as many, with these statuses
 --   Cases, cases      what an index holds after a call
 --   records_begun, records_more, records_row     it is known before the first call, and goes on
 --   records_model, records_none, records_stop, first_none_records, records_first_none     the ends of a call

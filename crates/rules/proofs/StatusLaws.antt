@@ -3,7 +3,7 @@
 --
 --   count_if_add                   one more or not
 --   Freed, freed_counts           freeing leaves the forced, and what is no longer open is free
---   length-freed_from, freed_at    what an index holds after freeing; opens-freed-lt: one that passes is no longer open
+--   length-freed_from, freed_at    what an index holds after freeing; opens_freed_lt: one that passes is no longer open
 --   length_candidates, candidate_open     a candidate is the first model's literal of an open variable
 --   literal_at_true, literal_at-negated     the literal at an index, and its negation
 --   ForcedMore, force_first_counts n open variables become forced, and nothing else changes

@@ -4,7 +4,7 @@
 --   statuses_before_more, statuses_before_all     the statuses before a call, read off the records
 --   Before, call_before     the progress before a call after the first, and what the call found
 --   Repeats, run_repeats    what a call has to be given in order to be made again, read off the records and the rows of a run
---   run_first               where a variable is free, the first model of the run is that of its first call; first-of-calls: and of call 1
+--   run_first               where a variable is free, the first model of the run is that of its first call; first_of_calls: and of call 1
 --
 -- Assumes nothing.
 use mathlib.Core.Path.{◌≡◌, refl, sym, ◌∙◌, ap}

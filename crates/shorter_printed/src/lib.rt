@@ -1,4 +1,6 @@
 // The shorter file of a text (docs/RULES.md, "The shorter file"), put into a buffer that is lent.
+#![tactic(auto)]
+
 ghost use Rattle.std.specs.Prelude.{◌≡◌, ◌≤◌, length};
 ghost use Rattle.rules.specs.Numbers.{max_text, max_entries};
 ghost use Rattle.texts.specs.ShorterPrinted.{PrintsShorter};

@@ -4,9 +4,9 @@
 --   not_none, none_of_not         nothing is not something; what is no thing is nothing
 --   all_mono, any_of_all, any_append_of, any_append_right     tests that follow from others; any over `++`
 --   blank_of_gap, digit_above, digit_most, not_gap_of_digit, not_lf_of_gap     bytes
---   numeral_sound, numeral_complete, numeral_digits, numeral_says     1 to 9 digits; word-of-numeral: they have no blank
---   entry_sound, entry_complete, entry_none     a token and the entry it says; word-of-token: it has no blank
---   percent_sound, percent_none   `%` is no entry; token-not-percent: an entry is no `%`
+--   numeral_sound, numeral_complete, numeral_digits, numeral_says     1 to 9 digits; word_of_numeral: they have no blank
+--   entry_sound, entry_complete, entry_none     a token and the entry it says; word_of_token: it has no blank
+--   percent_sound, percent_none   `%` is no entry; token_not_percent: an entry is no `%`
 --   skipped_sound, skipped_complete     lines before the header
 --
 -- Assumes nothing.

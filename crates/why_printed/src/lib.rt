@@ -1,4 +1,6 @@
 // Why a literal is forced, printed (docs/RULES.md, "The printed reason"), into a buffer that is lent.
+#![tactic(auto)]
+
 ghost use Rattle.texts.specs.WhyPrinted.{PrintsWhy};
 
 mod answer;

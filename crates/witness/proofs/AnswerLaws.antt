@@ -1,12 +1,12 @@
 -- The laws of specs/Answer: what the buffers of a run say of a variable, and what is answered.
 --
---   true_low, true_high       the literal that is true, by the byte, as code tests it; varOf-literal: its variable
+--   true_low, true_high       the literal that is true, by the byte, as code tests it; var_of-literal: its variable
 --   free_by_out, free_by_at, free_by_in     a variable that is free by the ways
 --   free_by_records, call_at, way_at      the ways and calls are those of the records
 --   way_witness_flip, way_witness_other, way_witness_by     the witness by the byte of the way
 --   same_formula     a formula over as many variables
 --   ways_length, models_put, free_known, shown_by, not_shown     what is put and answered
---   witnesses-refused, witnesses-answered     the contract
+--   witnesses_refused, witnesses_answered     the contract
 --
 -- Assumes nothing.
 use mathlib.Core.Path.{◌≡◌, refl, sym, ◌∙◌, ap}

@@ -92,7 +92,7 @@ fn put_list(out: &mut [u8], entries: &[i32], vars: u32, variable: u32) -> usize
 
 // The answer for a text: the line of its refusal, or the answer for its entries.
 // Rules out: models for a refused text; the line of another refusal.
-// Required of: print, by witness-bound.
+// Required of: print, by witness_bound.
 pub fn put_text(out: &mut [u8], text: &[u8], variable: u32, entries: &mut [i32]) -> usize
     requires { Room 0 (witness_text_of text.now variable) out.old × (length entries.old ≡ max_entries) }
     ensures { TextPut text.now variable entries.old out.old result entries.new out.new }

@@ -1,4 +1,6 @@
 // A witness to see, printed (docs/RULES.md, "The printed witness"), into a buffer that is lent.
+#![tactic(auto)]
+
 ghost use Rattle.texts.specs.WitnessPrinted.{PrintsWitness};
 
 mod answer;

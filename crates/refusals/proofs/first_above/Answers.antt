@@ -1,5 +1,4 @@
--- `first_above` meets its contract. The invariant of its loop: the index looked for is that in what is left. The measure is
--- what is left. Assumes nothing.
+-- `first_above` meets its contract. Assumes nothing.
 use mathlib.Core.Path.{◌≡◌, refl, ◌∙◌, ap}
 use Prim.Native.Nat.{◌-◌}
 use borrow.Author.Rules.{rules}

@@ -1,5 +1,4 @@
--- `nth_zero` meets its contract. The invariant of its loop: the index looked for is that in what is left. The measure is what
--- is left. Assumes nothing.
+-- `nth_zero` meets its contract. Assumes nothing.
 use Prim.Native.Nat.{◌-◌}
 use borrow.Author.Rules.{rules}
 use lib.IntN.{ℤ, pos}

@@ -1,5 +1,4 @@
--- `board::chain::link_all` meets its contract. The invariant of its loop: the chains are those of the clauses behind. The measure
--- is the number of entries left. Assumes nothing.
+-- `board::chain::link_all` meets its contract. Assumes nothing.
 use mathlib.Core.Logic.{◌≢◌}
 use mathlib.Core.Path.{◌≡◌, ◌∙◌, ap}
 use Prim.Native.Nat.{◌-◌}

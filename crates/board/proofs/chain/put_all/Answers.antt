@@ -1,5 +1,4 @@
--- `board::chain::put_all` meets its contract. The invariant of its loop: the parts of the first k codes are there. The measure is
--- what is left. Assumes nothing.
+-- `board::chain::put_all` meets its contract. Assumes nothing.
 use mathlib.Core.Path.{◌∙◌}
 use native.Mathlib.Omega.{arith}
 use lib.ListN.{length-set}

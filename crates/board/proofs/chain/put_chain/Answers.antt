@@ -1,5 +1,4 @@
--- `board::chain::put_chain` meets its contract. The invariant of its loop: what is left of the chain. The measure is the head,
--- since cells point to lower ones. Assumes nothing.
+-- `board::chain::put_chain` meets its contract. Assumes nothing.
 use Prim.Native.Nat.{◌-◌}
 use native.Mathlib.Omega.{arith}
 use Rattle.board.proofs.PutLaws.{putting_start, putting_now, putting_falls, putting_step, putting_done}

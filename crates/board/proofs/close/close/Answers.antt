@@ -1,5 +1,4 @@
--- `board::close::close` meets its contract. The invariant of its loop: closing from the values as they are comes to what it comes to
--- from those at entry, and takes as many rounds less as were made. The measure is the number of unset variables. Assumes nothing.
+-- `board::close::close` meets its contract. Assumes nothing.
 use mathlib.Core.Path.{◌∙◌}
 use native.Mathlib.Omega.{arith}
 use Rattle.board.proofs.CloseLaws.{closings_start, closings_asks, closings_few, closings_false, closings_still, closings_falls, closings_again}

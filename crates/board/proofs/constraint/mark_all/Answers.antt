@@ -1,5 +1,4 @@
--- `board::constraint::mark_all` meets its contract. The invariant of its loop: the literals from index i on are marked and counted. The
--- measure is what is left. Assumes nothing.
+-- `board::constraint::mark_all` meets its contract. Assumes nothing.
 use Prim.Native.Nat.{◌-◌}
 use native.Mathlib.Omega.{arith}
 use lib.IntN.{pos}

@@ -1,5 +1,4 @@
--- `board::first::all_hot` meets its contract. The invariant of its loop: the blocks of the first i clauses. The measure is what is left.
--- Assumes nothing.
+-- `board::first::all_hot` meets its contract. Assumes nothing.
 use native.Mathlib.Omega.{arith}
 use Rattle.board.proofs.FirstLaws.{heating_start, heating_in, heating_lt, heating_step, heating_done}
 use Rattle.board.proofs.first.all_hot.Goals as goal

@@ -1,5 +1,4 @@
--- `board::first::count_all` meets its contract. The invariant of its loop: the literals of the first k numbers are counted. The measure
--- is what is left. Assumes nothing.
+-- `board::first::count_all` meets its contract. Assumes nothing.
 use native.Mathlib.Omega.{arith}
 use Rattle.board.proofs.FirstLaws.{counting_start, counting_asks, counting_step, counting_done}
 use Rattle.board.proofs.first.count_all.Goals as goal

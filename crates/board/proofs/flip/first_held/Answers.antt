@@ -8,18 +8,6 @@ use Rattle.board.proofs.CodeLaws.{code_of_lt}
 use Rattle.board.proofs.FlipLaws.{held_asks, held_part}
 use Rattle.board.proofs.flip.first_held.Goals as goal
 
-{- LEFT
--- no goal for Need-slice-bounds-first-in-start
-part_first_in_start : tie.Need-slice-bounds-first-in-start
-part_first_in_start c = let p = here c.before.before in omega (arith, p.ordered, p.inside, p.within)
--}
-
-{- LEFT
--- no goal for Need-slice-bounds-first-in-end
-part_first_in_end : tie.Need-slice-bounds-first-in-end
-part_first_in_end c = let p = here c.before.before in omega (arith, p.ordered, p.inside, p.within)
--}
-
 pub code_of-k-requires : goal.code_of-k-requires
 code_of-k-requires c =
     record { some = c.requires.literal.some; most = omega (arith, c.requires.literal.most, c.requires.formula.vars_fit) }

@@ -1,5 +1,4 @@
--- `board::flip::first_in` meets its contract. The invariant of its loop: no clause of the list passed is false. The measure is what is
--- left. Assumes nothing.
+-- `board::flip::first_in` meets its contract. Assumes nothing.
 use mathlib.Core.Path.{sym, ◌∙◌, ap}
 use native.Mathlib.Omega.{arith}
 use native.Mathlib.Numerals.{add-one}

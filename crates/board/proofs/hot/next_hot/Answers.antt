@@ -1,5 +1,4 @@
--- `board::hot::next_hot` meets its contract. The invariant of its loop: no clause from the start to below i is hot. The measure is
--- what is left. Assumes nothing.
+-- `board::hot::next_hot` meets its contract. Assumes nothing.
 use Rattle.board.proofs.BlockLaws.{seeking_start, seeking_block, seeking_key, seeking_found, seeking_done}
 use Rattle.board.proofs.hot.next_hot.Goals as goal
 

@@ -1,5 +1,4 @@
--- `board::keys::change_all` meets its contract. The invariant of its loop: what is left of the list gives what all of it gives.
--- The measure is what is left. Assumes nothing.
+-- `board::keys::change_all` meets its contract. Assumes nothing.
 use native.Mathlib.Omega.{arith}
 use Rattle.board.proofs.HolderLaws.{walking_start, walking_now, walking_step, walking_done}
 use Rattle.board.proofs.keys.change_all.Goals as goal

@@ -1,5 +1,4 @@
--- `board::round::round` meets its contract. The invariant of its loop: the round under way, a board that shows its values, and a trail
--- that leads to them. The measure is the number of clauses left. Assumes nothing.
+-- `board::round::round` meets its contract. Assumes nothing.
 use mathlib.Core.Path.{sym, ◌∙◌}
 use Prim.Native.Nat.{◌<◌}
 use native.Mathlib.Omega.{arith}

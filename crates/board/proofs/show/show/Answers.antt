@@ -1,5 +1,4 @@
--- `board::show::show` meets its contract. The invariant of its loop: the first i variables are shown. The measure is what is left.
--- Assumes nothing.
+-- `board::show::show` meets its contract. Assumes nothing.
 use mathlib.Core.Path.{sym, ◌∙◌}
 use Rattle.board.proofs.ShowLaws.{showing_start, showing_one, showing_step, showing_done}
 use Rattle.board.proofs.show.show.Goals as goal

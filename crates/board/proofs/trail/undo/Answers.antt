@@ -1,5 +1,4 @@
--- `board::trail::undo` meets its contract. The invariant of its loop: what is left of the trail. The measure is its length.
--- Assumes nothing.
+-- `board::trail::undo` meets its contract. Assumes nothing.
 use native.Mathlib.Omega.{arith}
 use Rattle.board.proofs.TrailLaws.{undoing_start, undo_asks, undoing_falls, undoing_step, undoing_done}
 use Rattle.board.proofs.trail.undo.Goals as goal

@@ -1,4 +1,4 @@
--- `buffers::bits::write_bits` meets its contract. The invariant of its loop: the first i are bits, the others as they were. Assumes nothing.
+-- `buffers::bits::write_bits` meets its contract. Assumes nothing.
 use Prim.Native.Nat.{◌-◌}
 use native.Mathlib.Omega.{arith}
 use lib.ListN.{length, length-set}

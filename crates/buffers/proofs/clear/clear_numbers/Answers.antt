@@ -1,4 +1,4 @@
--- `buffers::clear::clear_numbers` meets its contract. The invariant of its loop: the front is filled with zeros. Assumes nothing.
+-- `buffers::clear::clear_numbers` meets its contract. Assumes nothing.
 use mathlib.Core.Path.{◌≡◌, refl, sym, ◌∙◌}
 use Prim.Native.Nat.{ℕ, ◌-◌}
 use native.Mathlib.Omega.{arith}

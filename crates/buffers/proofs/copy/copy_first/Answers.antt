@@ -1,5 +1,4 @@
--- `buffers::copy::copy_first` meets its contract. The invariant of its loop: the first `done` bytes are copied. The measure is what is
--- left. Assumes nothing.
+-- `buffers::copy::copy_first` meets its contract. Assumes nothing.
 use mathlib.Core.Path.{◌≡◌, refl, ◌∙◌, ap}
 use mathlib.Core.List.{List, ◌++◌}
 use Prim.Native.Nat.{ℕ, ◌-◌, ◌≤◌}

@@ -1,5 +1,4 @@
--- `count::count_set` meets its contract. The invariant of its loop: those before i are counted. The measure is what is left.
--- Assumes nothing.
+-- `count::count_set` meets its contract. Assumes nothing.
 use Prim.Native.Nat.{◌-◌}
 use native.Mathlib.Omega.{arith}
 use borrow.Author.Rules.{rules}

@@ -1,5 +1,4 @@
--- `buffers::put::put_word` meets its contract. The invariant of its loop: what is put and what is still to put are the word. The measure is
--- what is left of it. Assumes nothing.
+-- `buffers::put::put_word` meets its contract. Assumes nothing.
 use Prim.Native.Nat.{◌-◌}
 use native.Mathlib.Omega.{arith}
 use borrow.Author.Rules.{rules}

@@ -1,5 +1,4 @@
--- `next::run_calls` meets its contract. The invariant of its loop: the buffers keep their lengths, the run is where it was, or further, and
--- calls and ways show its records. The measure is how many candidates remain. Assumes nothing.
+-- `next::run_calls` meets its contract. Assumes nothing.
 use mathlib.Core.Path.{sym, ◌∙◌}
 use lib.ListN.{length}
 use borrow.Author.Rules.{rules}

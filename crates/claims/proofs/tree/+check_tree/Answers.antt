@@ -1,9 +1,10 @@
 -- The proof of the cycle of calls {check_tree}. A tree leads where its first number does, a split's where its tree for false leads and then
 -- its tree for true. Assumes nothing.
 use mathlib.Core.Path.{◌≡◌, refl, ◌∙◌, ap, subst}
-use Prim.Native.Nat.{ℕ, ◌<◌}
+use Prim.Native.Nat.{ℕ, suc, ◌<◌}
 use native.Mathlib.Omega.{arith}
 use lib.ListN.{length, set, length-set}
+use Rattle.rules.specs.Closing.{unsets}
 use Rattle.rules.specs.Meaning.{Values, clauses, value_at}
 use Rattle.rules.proofs.MeaningLaws.{unset_within}
 use Rattle.claims.specs.Steps.{TreeRead}
@@ -14,41 +15,46 @@ use Rattle.claims.proofs.tree.+check_tree.Goals as goal
 within : (values us : Values) (index b : ℕ) → value_at values index ≡ 0 → us ≡ set values index b → index < length us
 within values us index b unset e = omega (arith, ap length e, length-set values index b, unset_within values index unset)
 
+-- a split leaves fewer variables unset, and so does its second tree
+fewer : (values : Values) (index b t : ℕ) → value_at values index ≡ 0 → unsets values ≡ t → unsets (set values index (suc b)) < t
+fewer values index b t unset e = omega (arith, e, falls_set values (set values index (suc b)) index b unset refl)
+
+fewer_again : (values first : Values) (index a b t : ℕ) → value_at values index ≡ 0 → first ≡ set values index a → unsets values ≡ t
+    → unsets (set first index (suc b)) < t
+fewer_again values first index a b t unset same e =
+    omega (arith, e, falls_set values (set first index (suc b)) index b unset (set-again values first index a (suc b) same))
+
 pub bounds-values-i : goal.bounds-values-i
 bounds-values-i t c = unset_within c.args.values.now c.in-Split.i (split_unset c.in-Split.ensures)
 
 pub check_tree-requires : goal.check_tree-requires
-check_tree-requires t c =
-    let before = c.args.values.now in
-    let i = c.in-Split.i in (
-      omega (arith, c.decreases, falls_set before (set before i 1) i 0 (split_unset c.in-Split.ensures) refl),
-      formula_same before (set before i 1) i 1 refl c.requires,
-    )
+check_tree-requires t c = (
+  fewer c.args.values.now c.in-Split.i _ t (split_unset c.in-Split.ensures) c.decreases,
+  formula_same c.args.values.now _ c.in-Split.i _ refl c.requires,
+)
 
 pub bounds-values-i-in-Stop-check_tree : goal.bounds-values-i-in-Stop-check_tree
 bounds-values-i-in-Stop-check_tree t c =
-    within c.args.values.now c.check_tree.new.values c.in-Split.i 1 (split_unset c.in-Split.ensures) c.check_tree.ensures.same
+    within c.args.values.now c.check_tree.new.values c.in-Split.i _ (split_unset c.in-Split.ensures) c.check_tree.ensures.same
 
 pub bounds-values-i-in-On : goal.bounds-values-i-in-On
 bounds-values-i-in-On t c =
-    within c.args.values.now c.check_tree.new.values c.in-Split.i 1 (split_unset c.in-Split.ensures) c.check_tree.ensures.same
+    within c.args.values.now c.check_tree.new.values c.in-Split.i _ (split_unset c.in-Split.ensures) c.check_tree.ensures.same
 
 pub check_tree-last-requires : goal.check_tree-last-requires
 check_tree-last-requires t c =
     let before = c.args.values.now in
-    let first = c.check_tree.new.values in
-    let i = c.in-Split.i in
-    let again : set first i 2 ≡ set before i 2 = set-again before first i 1 2 c.check_tree.ensures.same in (
-      omega (arith, c.decreases, falls_set before (set first i 2) i 1 (split_unset c.in-Split.ensures) again),
-      formula_same before (set first i 2) i 2 again c.requires,
+    let i = c.in-Split.i in (
+      fewer_again before c.check_tree.new.values i _ _ t (split_unset c.in-Split.ensures) c.check_tree.ensures.same c.decreases,
+      formula_same before _ i _ (set-again before c.check_tree.new.values i _ _ c.check_tree.ensures.same) c.requires,
     )
 
 pub bounds-values-i-in-On-2 : goal.bounds-values-i-in-On-2
 bounds-values-i-in-On-2 t c =
     let before = c.args.values.now in
     let i = c.in-Split.i in
-    within before c.check_tree-last.new.values i 2 (split_unset c.in-Split.ensures)
-    (c.check_tree-last.ensures.same ∙ set-again before c.check_tree.new.values i 1 2 c.check_tree.ensures.same)
+    within before c.check_tree-last.new.values i _ (split_unset c.in-Split.ensures)
+    (c.check_tree-last.ensures.same ∙ set-again before c.check_tree.new.values i _ _ c.check_tree.ensures.same)
 
 pub returns-in-Stop : goal.returns-in-Stop
 returns-in-Stop t c = record { read = tree_stop c.in-Stop.ensures; same = refl }
@@ -59,12 +65,12 @@ returns-in-End t c = record { read = tree_end c.in-End.ensures; same = refl }
 pub shape_of-values-in-Stop-check_tree : goal.shape_of-values-in-Stop-check_tree
 shape_of-values-in-Stop-check_tree t c =
     ap length
-    (taken_back c.args.values.now c.check_tree.new.values c.in-Split.i 1 (split_unset c.in-Split.ensures) c.check_tree.ensures.same)
+    (taken_back c.args.values.now c.check_tree.new.values c.in-Split.i _ (split_unset c.in-Split.ensures) c.check_tree.ensures.same)
 
 pub returns-in-Stop-check_tree : goal.returns-in-Stop-check_tree
 returns-in-Stop-check_tree t c = record {
   read = tree_first c.in-Split.ensures c.in-Stop-check_tree.ensures.read;
-  same = taken_back c.args.values.now c.check_tree.new.values c.in-Split.i 1 (split_unset c.in-Split.ensures) c.check_tree.ensures.same;
+  same = taken_back c.args.values.now c.check_tree.new.values c.in-Split.i _ (split_unset c.in-Split.ensures) c.check_tree.ensures.same;
 }
 
 pub shape_of-values-in-On : goal.shape_of-values-in-On
@@ -72,8 +78,8 @@ shape_of-values-in-On t c =
     let before = c.args.values.now in
     let i = c.in-Split.i in
     ap length
-    (taken_back before c.check_tree-last.new.values i 2 (split_unset c.in-Split.ensures)
-    (c.check_tree-last.ensures.same ∙ set-again before c.check_tree.new.values i 1 2 c.check_tree.ensures.same))
+    (taken_back before c.check_tree-last.new.values i _ (split_unset c.in-Split.ensures)
+    (c.check_tree-last.ensures.same ∙ set-again before c.check_tree.new.values i _ _ c.check_tree.ensures.same))
 
 pub returns-in-On : goal.returns-in-On
 returns-in-On t c =
@@ -86,5 +92,5 @@ returns-in-On t c =
           tree_both c.in-Split.ensures c.in-On.ensures.read
           (subst (λ (us : Values). TreeRead (clauses c.args.entries.now) c.args.text.now us c.in-On.next c.check_tree-last.result) again
           c.check_tree-last.ensures.read);
-      same = taken_back before c.check_tree-last.new.values i 2 (split_unset c.in-Split.ensures) (c.check_tree-last.ensures.same ∙ again);
+      same = taken_back before c.check_tree-last.new.values i _ (split_unset c.in-Split.ensures) (c.check_tree-last.ensures.same ∙ again);
     }

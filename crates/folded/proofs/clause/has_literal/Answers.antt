@@ -1,5 +1,4 @@
--- `clause::has_literal` meets its contract. The invariant of its loop: no literal passed is the one. The measure is what is left.
--- Assumes nothing.
+-- `clause::has_literal` meets its contract. Assumes nothing.
 use mathlib.Core.Path.{◌≡◌, refl, sym, ap}
 use mathlib.Core.Bool.{false}
 use Prim.Native.Nat.{◌-◌}

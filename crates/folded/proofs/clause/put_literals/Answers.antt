@@ -1,5 +1,4 @@
--- `clause::put_literals` meets its contract. The invariant of its loop: those of the first i literals that stay are put, and with the others
--- behind them all are. The measure is what is left of the clause. Assumes nothing.
+-- `clause::put_literals` meets its contract. Assumes nothing.
 use mathlib.Core.Path.{sym, ◌∙◌, ap}
 use Prim.Native.Nat.{◌-◌}
 use lib.IntN.{ℤ, pos}

@@ -1,5 +1,4 @@
--- `others::count_others` meets its contract. The invariant of its loop: those before i are counted. The measure is what is left.
--- Assumes nothing.
+-- `others::count_others` meets its contract. Assumes nothing.
 use mathlib.Core.Path.{◌∙◌, ap}
 use mathlib.Core.List.{[]}
 use Prim.Native.Nat.{◌-◌, ◌<◌}

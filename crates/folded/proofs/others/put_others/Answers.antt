@@ -1,5 +1,4 @@
--- `others::put_others` meets its contract. The invariant of its loop: the lines of the first i clauses are put, and with the others behind them
--- all are. The measure is what is left. Assumes nothing.
+-- `others::put_others` meets its contract. Assumes nothing.
 use mathlib.Core.Path.{sym}
 use mathlib.Core.List.{[]}
 use Prim.Native.Nat.{◌-◌, ◌<◌}

@@ -1,5 +1,4 @@
--- `units::put_units` meets its contract. The invariant of its loop: the lines of the first i variables are put, and with the others behind
--- them all are. The measure is what is left of the values. Assumes nothing.
+-- `units::put_units` meets its contract. Assumes nothing.
 use Prim.Native.Nat.{◌-◌}
 use borrow.Author.Rules.{rules}
 use lib.ListN.{length}

@@ -1,5 +1,4 @@
--- `formula::first_false::first_false` meets its contract. The invariant of its loop: the clauses so far have a true literal each. The
--- measure is what is left. Assumes nothing.
+-- `formula::first_false::first_false` meets its contract. Assumes nothing.
 use mathlib.Core.Path.{◌≡◌, sym, ◌∙◌, ap}
 use mathlib.Core.List.{[]}
 use Prim.Native.Nat.{suc, ◌+◌, ◌<◌}

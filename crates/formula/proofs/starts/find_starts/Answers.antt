@@ -1,5 +1,4 @@
--- `formula::starts::find_starts` meets its contract. The invariant of its loop: the starts written so far, and those behind the
--- entries that are left, are the starts of the whole list. The measure is what is left. Assumes nothing.
+-- `formula::starts::find_starts` meets its contract. Assumes nothing.
 use mathlib.Core.Path.{◌≡◌, ◌∙◌, ap}
 use Prim.Native.Nat.{◌<◌}
 use native.Mathlib.Omega.{arith}

@@ -1,5 +1,4 @@
--- `formula::state::has_true` meets its contract. The invariant of its loop: no literal passed is true. The measure is what is left.
--- Assumes nothing.
+-- `formula::state::has_true` meets its contract. Assumes nothing.
 use mathlib.Core.Path.{◌≡◌, refl, sym, ◌∙◌}
 use lib.IntN.{pos}
 use lib.ListN.{get_or}

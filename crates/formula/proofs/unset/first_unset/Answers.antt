@@ -1,5 +1,4 @@
--- `formula::unset::first_unset` meets its contract. The invariant of its loop: no literal passed is unset. The measure is what is left.
--- Assumes nothing.
+-- `formula::unset::first_unset` meets its contract. Assumes nothing.
 use mathlib.Core.Path.{◌≡◌, refl, sym, ◌∙◌}
 use lib.IntN.{pos}
 use lib.ListN.{get_or}

@@ -1,5 +1,4 @@
--- `formula::unset::has_other_unset` meets its contract. The invariant of its loop: no literal passed is unset and another than l. The
--- measure is what is left. Assumes nothing.
+-- `formula::unset::has_other_unset` meets its contract. Assumes nothing.
 use mathlib.Core.Path.{◌≡◌, refl, sym, ◌∙◌, ap}
 use mathlib.Core.Bool.{false}
 use lib.IntN.{pos}

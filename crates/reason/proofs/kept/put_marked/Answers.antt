@@ -1,5 +1,4 @@
--- `kept::put_marked` meets its contract. The invariant of its loop: what is put, and the marked entries of what is left, are all marked
--- entries. The measure is what is left. Assumes nothing.
+-- `kept::put_marked` meets its contract. Assumes nothing.
 use mathlib.Core.Path.{ap}
 use Prim.Native.Nat.{◌-◌}
 use lib.Dec.{lit<}

@@ -1,4 +1,4 @@
--- `marks::mark_first` meets its contract. The invariant of its loop: the first i are marked, the others as they were. Assumes nothing.
+-- `marks::mark_first` meets its contract. Assumes nothing.
 use mathlib.Core.Path.{◌≡◌, refl, ◌∙◌, ap}
 use mathlib.Core.List.{List, ◌++◌}
 use Prim.Native.Nat.{ℕ, ◌-◌, ◌≤◌}

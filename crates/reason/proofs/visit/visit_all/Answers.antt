@@ -1,5 +1,4 @@
--- `visit::visit_all` meets its contract. The invariant of its loop: the buffers keep their lengths, and the visits that are left end as
--- all do. The measure is how many are left. Assumes nothing.
+-- `visit::visit_all` meets its contract. Assumes nothing.
 use mathlib.Core.Path.{◌≡◌, refl, ◌∙◌, ap}
 use Prim.Native.Nat.{ℕ}
 use native.Mathlib.Omega.{arith}

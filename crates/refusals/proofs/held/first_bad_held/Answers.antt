@@ -1,5 +1,4 @@
--- `held::first_bad_held` meets its contract. The invariant of its loop: the index looked for is that in what is left. The measure is what
--- is left. Assumes nothing.
+-- `held::first_bad_held` meets its contract. Assumes nothing.
 use mathlib.Core.Path.{◌≡◌, refl, sym, ◌∙◌, ap}
 use Prim.Native.Nat.{◌-◌}
 use lib.IntN.{ℤ, pos}

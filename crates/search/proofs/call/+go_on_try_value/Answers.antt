@@ -1,6 +1,4 @@
--- The proof of the cycle of calls {go_on, try_value} over the board. The measures: twice the number of unset variables, and one more for
--- go_on. Closing leaves no more of them, and a value set leaves fewer. The invariant of the loop: false is tried, or it found nothing and
--- true is. Each way out is a law of OnBoardLaws. Assumes nothing.
+-- The goals of the cycle of calls {go_on, try_value} over the board. Each way out is a law of OnBoardLaws. Assumes nothing.
 use mathlib.Core.Path.{refl, sym, ◌∙◌}
 use native.Mathlib.Omega.{arith}
 use lib.ListN.{take}
@@ -10,22 +8,18 @@ use Rattle.search.proofs.OnBoardLaws.{turn_begins, turn_falls, turn_asks, turn_a
 use Rattle.search.proofs.OnBoardLaws.{tried_stopped, literal_asks, set_falls, go_over, try_asks, tried_back}
 use Rattle.search.proofs.call.+go_on_try_value.Goals as goal
 
--- of go_on
 pub go_on-close_in-closing-requires : goal.go_on-close_in-closing-requires
 go_on-close_in-closing-requires t c =
     record { fits = c.requires.fits; over = c.requires.over.board }
 
--- of go_on
 pub go_on-take_back-requires : goal.go_on-take_back-requires
 go_on-take_back-requires t c =
     record { fits = c.requires.fits; over = back_asks c.args.meter c.requires.over c.close_in-closing.ensures }
 
--- of go_on
 pub go_on-returns-in-Clash : goal.go_on-returns-in-Clash
 go_on-returns-in-Clash t c =
     went_clash c.args.meter c.requires.over c.close_in-closing.ensures c.in-Clash.is c.take_back.ensures
 
--- of go_on
 pub go_on-choice_in-requires : goal.go_on-choice_in-requires
 go_on-choice_in-requires t c =
     record {
@@ -33,18 +27,15 @@ go_on-choice_in-requires t c =
       below = closed_below c.args.meter c.requires.over c.close_in-closing.ensures c.in_default.is;
     }
 
--- of go_on
 pub go_on-returns-in_default-choice_in : goal.go_on-returns-in_default-choice_in
 go_on-returns-in_default-choice_in t c =
     went_model c.args.meter c.requires.over c.close_in-closing.ensures c.in_default.is
     (choice_none (take c.args.vars c.close_in-closing.new.values) (sym c.choice_in.ensures ∙ c.in_default-choice_in.is))
 
--- of go_on
 pub go_on-loop-value-init : goal.go_on-loop-value-init
 go_on-loop-value-init t c =
     first refl refl refl refl refl refl
 
--- of go_on
 pub go_on-try_value-end-requires : goal.go_on-try_value-end-requires
 go_on-try_value-end-requires t c = (
   omega (
@@ -60,19 +51,16 @@ go_on-try_value-end-requires t c = (
   },
 )
 
--- of go_on
 pub go_on-loop-value-smaller : goal.go_on-loop-value-smaller
 go_on-loop-value-smaller t c =
     turns_less c.try_value-end.result.outcome c.loop-value.value (sym c.goes_again.ensures ∙ c.if-goes_again.true)
 
--- of go_on
 pub go_on-loop-value-preserved : goal.go_on-loop-value-preserved
 go_on-loop-value-preserved t c =
     turn_again c.args.meter c.requires.over c.close_in-closing.ensures c.in_default.is c.in-Unset.v
     (sym c.choice_in.ensures ∙ c.in-Unset.is) c.loop-value.invariant c.try_value-end.ensures
     (sym c.goes_again.ensures ∙ c.if-goes_again.true)
 
--- of go_on
 pub go_on-take_back-requires-else-goes_again : goal.go_on-take_back-requires-else-goes_again
 go_on-take_back-requires-else-goes_again t c =
     record {
@@ -81,29 +69,24 @@ go_on-take_back-requires-else-goes_again t c =
           (sym c.choice_in.ensures ∙ c.in-Unset.is) c.loop-value.invariant c.try_value-end.ensures;
     }
 
--- of go_on
 pub go_on-returns-else-goes_again : goal.go_on-returns-else-goes_again
 go_on-returns-else-goes_again t c =
     turn_went c.args.meter c.requires.over c.close_in-closing.ensures c.in_default.is c.in-Unset.v
     (sym c.choice_in.ensures ∙ c.in-Unset.is) c.loop-value.invariant c.try_value-end.ensures
     (sym c.goes_again.ensures ∙ c.if-goes_again.false) c.take_back-else-goes_again.ensures
 
--- of try_value
 pub try_value-returns-in_default : goal.try_value-returns-in_default
 try_value-returns-in_default t c =
     tried_stopped c.args.meter c.args.value c.requires.over (sym c.ask_try.ensures ∙ c.in_default.is)
 
--- of try_value
 pub try_value-literal_of-requires : goal.try_value-literal_of-requires
 try_value-literal_of-requires t c =
     (c.requires.over.variable.some, omega (arith, c.requires.over.variable.most, c.requires.over.board.shows.small.vars_fit))
 
--- of try_value
 pub try_value-set_in-requires : goal.try_value-set_in-requires
 try_value-set_in-requires t c =
     record { fits = c.requires.fits; over = rw c.literal_of.ensures (literal_asks c.args.meter c.args.value c.requires.over) }
 
--- of try_value
 pub try_value-go_on-end-requires : goal.try_value-go_on-end-requires
 try_value-go_on-end-requires t c =
     let done = rw c.literal_of.ensures at c.set_in.ensures in (
@@ -111,14 +94,12 @@ try_value-go_on-end-requires t c =
       record { fits = c.requires.fits; over = go_over c.args.meter c.args.value c.requires.over done },
     )
 
--- of try_value
 pub try_value-take_back-requires : goal.try_value-take_back-requires
 try_value-take_back-requires t c =
     let done = rw c.literal_of.ensures at c.set_in.ensures in
     let given = sym c.ask_try.ensures ∙ c.in-Given.is in
     record { fits = c.requires.fits; over = try_asks c.args.meter c.args.value c.requires.over done given c.go_on-end.ensures }
 
--- of try_value
 pub try_value-returns : goal.try_value-returns
 try_value-returns t c =
     let done = rw c.literal_of.ensures at c.set_in.ensures in

@@ -1,5 +1,4 @@
--- `search::values::lowest_from` meets its contract. The invariant of its loop: no variable below index i is unset. The measure is
--- what is left. Assumes nothing.
+-- `search::values::lowest_from` meets its contract. Assumes nothing.
 use native.Mathlib.Omega.{arith}
 use native.Mathlib.Numerals.{add-one}
 use Rattle.search.proofs.ValueLaws.{passed_from, passed_step, passed_unset, passed_done}

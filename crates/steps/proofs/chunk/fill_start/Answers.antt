@@ -1,4 +1,4 @@
--- `chunk::fill_start` meets its contract. The invariant of its loop: the front is filled. Assumes nothing.
+-- `chunk::fill_start` meets its contract. Assumes nothing.
 use mathlib.Core.Path.{◌≡◌, refl, sym, ◌∙◌}
 use Prim.Native.Nat.{◌-◌}
 use native.Mathlib.Omega.{arith}

@@ -1,4 +1,4 @@
--- `chunk::force_first` meets its contract. The invariant of its loop: what is left is to force behind i. Assumes nothing.
+-- `chunk::force_first` meets its contract. Assumes nothing.
 use Prim.Native.Nat.{◌-◌}
 use native.Mathlib.Omega.{arith}
 use borrow.Author.Rules.{rules}

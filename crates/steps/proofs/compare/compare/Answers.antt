@@ -1,5 +1,4 @@
--- `compare::compare` meets its contract. The invariant of its loop: what is left is to free behind i, and what was dropped is counted.
--- The measure is what is left of the length. Assumes nothing.
+-- `compare::compare` meets its contract. Assumes nothing.
 use Prim.Native.Nat.{◌-◌}
 use native.Mathlib.Omega.{arith}
 use borrow.Author.Rules.{rules}

@@ -1,5 +1,4 @@
--- `constraint::put_constraint` meets its contract. The invariant of its loop: what is put, and what is still to put, are the
--- constraint. The measure is what is left of the length. Assumes nothing.
+-- `constraint::put_constraint` meets its contract. Assumes nothing.
 use Prim.Native.Nat.{◌-◌}
 use native.Mathlib.Omega.{arith}
 use borrow.Author.Rules.{rules}

@@ -1,5 +1,4 @@
--- `flip::flip` meets its contract. The invariant of its loop: the model is as it was, what is left is to free behind i, and what was
--- dropped is counted. The measure is what is left of the length. Assumes nothing.
+-- `flip::flip` meets its contract. Assumes nothing.
 use mathlib.Core.Path.{ap}
 use Prim.Native.Nat.{◌-◌}
 use native.Mathlib.Omega.{arith}

@@ -1,5 +1,4 @@
--- `hint::put_hints` meets its contract. The invariant of its loop: the hints in front of i are put, and the model is as it was. The
--- measure is what is left. Assumes nothing.
+-- `hint::put_hints` meets its contract. Assumes nothing.
 use mathlib.Core.Path.{◌≡◌, refl, ◌∙◌, ap}
 use Prim.Native.Nat.{◌-◌}
 use native.Mathlib.Omega.{arith}

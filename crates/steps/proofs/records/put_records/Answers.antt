@@ -1,5 +1,4 @@
--- `records::put_records` meets its contract. The invariant of its loop: the first i elements of both buffers are new, the others as they
--- were. The measure is what is left of the length. Assumes nothing.
+-- `records::put_records` meets its contract. Assumes nothing.
 use mathlib.Core.Path.{sym, ◌∙◌}
 use Prim.Native.Nat.{◌-◌}
 use native.Mathlib.Omega.{arith}

@@ -1,5 +1,4 @@
--- `again::keep_before` meets its contract. The invariant of its loop: the first i statuses are those before the call, the others as they
--- were. Assumes nothing.
+-- `again::keep_before` meets its contract. Assumes nothing.
 use Prim.Native.Nat.{◌-◌}
 use native.Mathlib.Omega.{arith}
 use borrow.Author.Rules.{rules}

@@ -1,4 +1,4 @@
--- `again::tries_of` meets its contract. The invariant of its loop: the tries of the first i rows. Assumes nothing.
+-- `again::tries_of` meets its contract. Assumes nothing.
 use mathlib.Core.Path.{◌≡◌, refl, ◌∙◌, ap}
 use Prim.Native.Nat.{◌+◌, ◌-◌, ◌≤◌}
 use native.Mathlib.Omega.{arith}

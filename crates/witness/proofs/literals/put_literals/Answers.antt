@@ -1,4 +1,4 @@
--- `literals::put_literals` meets its contract. The invariant of its loop: the front is filled. Assumes nothing.
+-- `literals::put_literals` meets its contract. Assumes nothing.
 use mathlib.Core.Path.{◌≡◌, refl, sym, ◌∙◌, ap}
 use Prim.Native.Nat.{ℕ, pred, ◌-◌, ◌<◌, ◌^◌}
 use native.Mathlib.Omega.{arith}

@@ -1,0 +1,19 @@
+-- `print` meets its contract: nothing in a short buffer, the answer in others. Assumes nothing.
+use mathlib.Core.Path.{refl}
+use borrow.Author.Rules.{rules}
+use Rattle.why_printed.proofs.AnswerLaws.{prints_short, whole_room, prints_answer}
+use Rattle.why_printed.proofs.print.Goals as goal
+
+pub returns-then-out-lt-MAX_WHY : goal.returns-then-out-lt-MAX_WHY
+returns-then-out-lt-MAX_WHY c =
+    let a = c.args in
+    prints_short a.text.now a.literal.0 a.out.now c.if-out-lt-MAX_WHY.true
+
+pub put_text-requires : goal.put_text-requires
+put_text-requires c =
+    let a = c.args in
+    (whole_room a.text.now a.literal.0 a.out.now c.if-out-lt-MAX_WHY.false, refl)
+
+pub returns : goal.returns
+returns c =
+    prints_answer c.if-out-lt-MAX_WHY.false c.put_text.ensures.put
