@@ -1,6 +1,5 @@
 -- The laws of the questions: the visits, the second call and the first.
 --
---   not_stopped                   an outcome by the tag of the arm that is left
 --   visited_model, visited_otherwise, length-mark_by     the marks behind a visit
 --   asked_same                    what is required, by the lengths of the buffers
 --   Visiting, visiting_start, visiting_step, visiting_stop, visiting_done     the loop over the clauses
@@ -9,16 +8,13 @@
 --
 -- Assumes nothing.
 use mathlib.Core.Path.{◌≡◌, refl, sym, ◌∙◌, ap}
-use mathlib.Core.Logic.{◌≢◌, ⊎_elim}
-use mathlib.Core.List.{List, [], ◌∷◌, ◌++◌, map}
+use mathlib.Core.Logic.{◌≢◌}
+use mathlib.Core.List.{List, [], ◌++◌, map}
 use Prim.Native.Nat.{ℕ, zero, suc, ◌+◌, ◌-◌, ◌≤◌, ◌<◌}
 use native.Mathlib.Omega.{arith}
 use lib.IntN.{ℤ}
 use lib.ListN.{length, get_or, set, take, drop, replicate, length-set, length-replicate, get_or-replicate, get_or-append}
 use lib.Seq.{set-set, set-get_or, get_or-set_other}
-use types.Run.{OneOf}
-use denote.Enum.Declared.{tag_of, declared}
-use Rattle.rules.specs.contracts.Outcome as outcome
 use Rattle.rules.specs.declared.Outcome.{Outcome}
 use Rattle.rules.specs.declared.WhyAnswer.{WhyAnswer}
 use Rattle.rules.specs.declared.WhyReport.{WhyReport}
@@ -37,13 +33,6 @@ use Rattle.search.specs.Calls.{CallOver, CallEnds}
 use Rattle.reason.specs.Asks.{Asked, EndsAs, MarkedBelow, VisitDone, blank_call, marked_call, mark_by, question}
 use Rattle.search.proofs.EndLaws.{was_model}
 use Rattle.reason.proofs.CallLaws.{ends_none, ends_stopped}
-
--- ---- an outcome by the tag of the arm that is left
-
-pub not_stopped : (o : Outcome) → OneOf (0 ∷ 1 ∷ []) (tag_of (declared outcome.enum) o) → o ≢ Outcome.Stopped
-not_stopped Outcome.Model q e = let z : ◌≡◌ {A = ℕ} 0 1 = cc in omega arith
-not_stopped Outcome.NoModel q e = let z : ◌≡◌ {A = ℕ} 0 1 = cc in omega arith
-not_stopped Outcome.Stopped q e = ⊎_elim (λ (e : ◌≡◌ {A = ℕ} 2 0). omega arith) (λ (e : ◌≡◌ {A = ℕ} 2 1). omega arith) q
 
 -- ---- the marks behind a visit
 

@@ -1,7 +1,6 @@
 -- A call as `next_go` and `try_value` make it: which of its ways is taken, what it then ends with, and the values that are taken back.
 --
 --   Chosen, chosen, choice_none   the variable that was chosen is the lowest unset one; or there is none
---   not_no_model, not_model       an outcome by the tag of the arm that is left
 --   ends_taken_back               taking back
 --   ends_clash, ends_model, ends_first, ends_second     a call by what closing ends with and by the choice, and what it ends with
 --   ends_stopped, ends_back       a try by what the meter gives, and what it ends with
@@ -9,18 +8,15 @@
 --
 -- Assumes nothing.
 use mathlib.Core.Path.{◌≡◌, refl, ◌∙◌, ap}
-use mathlib.Core.Logic.{◌≢◌, ⊎_elim}
+use mathlib.Core.Logic.{◌≢◌}
 use mathlib.Core.Bool.{Bool, true, false}
-use mathlib.Core.List.{List, [], ◌∷◌}
+use mathlib.Core.List.{List}
 use mathlib.Core.Option.{Option, none, some}
 use Prim.Native.Nat.{ℕ, zero, suc, pred, ◌+◌, ◌<◌}
 use native.Mathlib.Omega.{arith}
 use native.Mathlib.Numerals.{add-one}
 use lib.Dec.{ltb}
 use lib.ListN.{set, length}
-use types.Run.{OneOf}
-use denote.Enum.Declared.{tag_of, declared}
-use Rattle.rules.specs.contracts.Outcome as outcome
 use Rattle.rules.specs.declared.Var.{Var}
 use Rattle.rules.specs.declared.Outcome.{Outcome}
 use Rattle.rules.specs.declared.Outcome.TheVariants.{Model, NoModel, Stopped}
@@ -71,18 +67,6 @@ choice_none vs = go (lowest_unset vs)
     go : (o : Option ℕ) → choice_of o ≡ AllSet → o ≡ none
     go none e = refl
     go (some i) e = apart cc
-
--- ---- outcomes by the tag of an arm
-
-pub not_no_model : (o : Outcome) → OneOf (0 ∷ 2 ∷ []) (tag_of (declared outcome.enum) o) → o ≢ NoModel
-not_no_model Model q e = apart cc
-not_no_model NoModel q e = ⊎_elim (λ (e : ◌≡◌ {A = ℕ} 1 0). omega arith) (λ (e : ◌≡◌ {A = ℕ} 1 2). omega arith) q
-not_no_model Stopped q e = apart cc
-
-pub not_model : (o : Outcome) → OneOf (1 ∷ 2 ∷ []) (tag_of (declared outcome.enum) o) → o ≢ Model
-not_model Model q e = ⊎_elim (λ (e : ◌≡◌ {A = ℕ} 0 1). omega arith) (λ (e : ◌≡◌ {A = ℕ} 0 2). omega arith) q
-not_model NoModel q e = apart cc
-not_model Stopped q e = apart cc
 
 -- ---- taking back
 

@@ -1,6 +1,5 @@
 -- `run` meets its contract: what is refused writes nothing; what is accepted writes the fronts of the buffers. Assumes nothing.
 use mathlib.Core.Path.{◌≡◌, sym, ◌∙◌}
-use borrow.Author.Rules.{rules}
 use Rattle.rules.specs.Answer.{Given, given, buffers, refusal_of}
 use Rattle.rules.specs.RunRefusals.{Accepted}
 use Rattle.refusals.specs.declared.Checked.TheVariants.{Accepted as NotRefused}
@@ -13,170 +12,170 @@ use Rattle.backbone.proofs.run.Goals as goal
 pub slice_bounds-first-end : goal.slice_bounds-first-end
 slice_bounds-first-end c =
     let the_given : Given =
-        given c.args.entries.now c.args.vars c.args.held.now c.args.budget c.args.chunk_limit
+    given c.args.entries.now c.args.vars c.args.held.now c.args.budget c.args.chunk_limit
     (buffers c.args.status.now c.args.calls.now c.args.ways.now c.args.hints.now c.args.log.now) in
     let checked : c.refuse-checked.result ≡ found (refusal_of the_given) =
-        checked_is the_given c.out_of_limits-bad_limits.ensures c.too_short-short.ensures c.refuse-checked.ensures in
+    checked_is the_given c.out_of_limits-bad_limits.ensures c.too_short-short.ensures c.refuse-checked.ensures in
     let said : NotRefused ≡ found (refusal_of the_given) =
-        sym c.in-Accepted.is ∙ checked in
+    sym c.in-Accepted.is ∙ checked in
     let open_run : Accepted the_given =
-        accepted the_given said in
+    accepted the_given said in
     open_run.listed.lent.in_limits.vars_fit
 
 pub slice_bounds-held_run-end : goal.slice_bounds-held_run-end
 slice_bounds-held_run-end c =
     let the_given : Given =
-        given c.args.entries.now c.args.vars c.args.held.now c.args.budget c.args.chunk_limit
+    given c.args.entries.now c.args.vars c.args.held.now c.args.budget c.args.chunk_limit
     (buffers c.args.status.now c.args.calls.now c.args.ways.now c.args.hints.now c.args.log.now) in
     let checked : c.refuse-checked.result ≡ found (refusal_of the_given) =
-        checked_is the_given c.out_of_limits-bad_limits.ensures c.too_short-short.ensures c.refuse-checked.ensures in
+    checked_is the_given c.out_of_limits-bad_limits.ensures c.too_short-short.ensures c.refuse-checked.ensures in
     let said : NotRefused ≡ found (refusal_of the_given) =
-        sym c.in-Accepted.is ∙ checked in
+    sym c.in-Accepted.is ∙ checked in
     let open_run : Accepted the_given =
-        accepted the_given said in
+    accepted the_given said in
     front_len _ _ open_run.listed.lent.in_limits.vars_fit
 
 pub slice_bounds-held_run-end-in-Accepted : goal.slice_bounds-held_run-end-in-Accepted
 slice_bounds-held_run-end-in-Accepted c =
     let the_given : Given =
-        given c.args.entries.now c.args.vars c.args.held.now c.args.budget c.args.chunk_limit
+    given c.args.entries.now c.args.vars c.args.held.now c.args.budget c.args.chunk_limit
     (buffers c.args.status.now c.args.calls.now c.args.ways.now c.args.hints.now c.args.log.now) in
     let checked : c.refuse-checked.result ≡ found (refusal_of the_given) =
-        checked_is the_given c.out_of_limits-bad_limits.ensures c.too_short-short.ensures c.refuse-checked.ensures in
+    checked_is the_given c.out_of_limits-bad_limits.ensures c.too_short-short.ensures c.refuse-checked.ensures in
     let said : NotRefused ≡ found (refusal_of the_given) =
-        sym c.in-Accepted.is ∙ checked in
+    sym c.in-Accepted.is ∙ checked in
     let open_run : Accepted the_given =
-        accepted the_given said in
+    accepted the_given said in
     open_run.listed.lent.status_fits
 
 pub slice_bounds-held_run-end-in-Accepted-2 : goal.slice_bounds-held_run-end-in-Accepted-2
 slice_bounds-held_run-end-in-Accepted-2 c =
     let the_given : Given =
-        given c.args.entries.now c.args.vars c.args.held.now c.args.budget c.args.chunk_limit
+    given c.args.entries.now c.args.vars c.args.held.now c.args.budget c.args.chunk_limit
     (buffers c.args.status.now c.args.calls.now c.args.ways.now c.args.hints.now c.args.log.now) in
     let checked : c.refuse-checked.result ≡ found (refusal_of the_given) =
-        checked_is the_given c.out_of_limits-bad_limits.ensures c.too_short-short.ensures c.refuse-checked.ensures in
+    checked_is the_given c.out_of_limits-bad_limits.ensures c.too_short-short.ensures c.refuse-checked.ensures in
     let said : NotRefused ≡ found (refusal_of the_given) =
-        sym c.in-Accepted.is ∙ checked in
+    sym c.in-Accepted.is ∙ checked in
     let open_run : Accepted the_given =
-        accepted the_given said in
+    accepted the_given said in
     front_len _ _ open_run.listed.lent.status_fits
 
 pub slice_bounds-held_run-end-in-Accepted-3 : goal.slice_bounds-held_run-end-in-Accepted-3
 slice_bounds-held_run-end-in-Accepted-3 c =
     let the_given : Given =
-        given c.args.entries.now c.args.vars c.args.held.now c.args.budget c.args.chunk_limit
+    given c.args.entries.now c.args.vars c.args.held.now c.args.budget c.args.chunk_limit
     (buffers c.args.status.now c.args.calls.now c.args.ways.now c.args.hints.now c.args.log.now) in
     let checked : c.refuse-checked.result ≡ found (refusal_of the_given) =
-        checked_is the_given c.out_of_limits-bad_limits.ensures c.too_short-short.ensures c.refuse-checked.ensures in
+    checked_is the_given c.out_of_limits-bad_limits.ensures c.too_short-short.ensures c.refuse-checked.ensures in
     let said : NotRefused ≡ found (refusal_of the_given) =
-        sym c.in-Accepted.is ∙ checked in
+    sym c.in-Accepted.is ∙ checked in
     let open_run : Accepted the_given =
-        accepted the_given said in
+    accepted the_given said in
     open_run.listed.lent.calls_fit
 
 pub slice_bounds-held_run-end-in-Accepted-4 : goal.slice_bounds-held_run-end-in-Accepted-4
 slice_bounds-held_run-end-in-Accepted-4 c =
     let the_given : Given =
-        given c.args.entries.now c.args.vars c.args.held.now c.args.budget c.args.chunk_limit
+    given c.args.entries.now c.args.vars c.args.held.now c.args.budget c.args.chunk_limit
     (buffers c.args.status.now c.args.calls.now c.args.ways.now c.args.hints.now c.args.log.now) in
     let checked : c.refuse-checked.result ≡ found (refusal_of the_given) =
-        checked_is the_given c.out_of_limits-bad_limits.ensures c.too_short-short.ensures c.refuse-checked.ensures in
+    checked_is the_given c.out_of_limits-bad_limits.ensures c.too_short-short.ensures c.refuse-checked.ensures in
     let said : NotRefused ≡ found (refusal_of the_given) =
-        sym c.in-Accepted.is ∙ checked in
+    sym c.in-Accepted.is ∙ checked in
     let open_run : Accepted the_given =
-        accepted the_given said in
+    accepted the_given said in
     front_len _ _ open_run.listed.lent.calls_fit
 
 pub slice_bounds-held_run-end-in-Accepted-5 : goal.slice_bounds-held_run-end-in-Accepted-5
 slice_bounds-held_run-end-in-Accepted-5 c =
     let the_given : Given =
-        given c.args.entries.now c.args.vars c.args.held.now c.args.budget c.args.chunk_limit
+    given c.args.entries.now c.args.vars c.args.held.now c.args.budget c.args.chunk_limit
     (buffers c.args.status.now c.args.calls.now c.args.ways.now c.args.hints.now c.args.log.now) in
     let checked : c.refuse-checked.result ≡ found (refusal_of the_given) =
-        checked_is the_given c.out_of_limits-bad_limits.ensures c.too_short-short.ensures c.refuse-checked.ensures in
+    checked_is the_given c.out_of_limits-bad_limits.ensures c.too_short-short.ensures c.refuse-checked.ensures in
     let said : NotRefused ≡ found (refusal_of the_given) =
-        sym c.in-Accepted.is ∙ checked in
+    sym c.in-Accepted.is ∙ checked in
     let open_run : Accepted the_given =
-        accepted the_given said in
+    accepted the_given said in
     open_run.listed.lent.ways_fit
 
 pub slice_bounds-held_run-end-in-Accepted-6 : goal.slice_bounds-held_run-end-in-Accepted-6
 slice_bounds-held_run-end-in-Accepted-6 c =
     let the_given : Given =
-        given c.args.entries.now c.args.vars c.args.held.now c.args.budget c.args.chunk_limit
+    given c.args.entries.now c.args.vars c.args.held.now c.args.budget c.args.chunk_limit
     (buffers c.args.status.now c.args.calls.now c.args.ways.now c.args.hints.now c.args.log.now) in
     let checked : c.refuse-checked.result ≡ found (refusal_of the_given) =
-        checked_is the_given c.out_of_limits-bad_limits.ensures c.too_short-short.ensures c.refuse-checked.ensures in
+    checked_is the_given c.out_of_limits-bad_limits.ensures c.too_short-short.ensures c.refuse-checked.ensures in
     let said : NotRefused ≡ found (refusal_of the_given) =
-        sym c.in-Accepted.is ∙ checked in
+    sym c.in-Accepted.is ∙ checked in
     let open_run : Accepted the_given =
-        accepted the_given said in
+    accepted the_given said in
     front_len _ _ open_run.listed.lent.ways_fit
 
 pub slice_bounds-held_run-end-in-Accepted-7 : goal.slice_bounds-held_run-end-in-Accepted-7
 slice_bounds-held_run-end-in-Accepted-7 c =
     let the_given : Given =
-        given c.args.entries.now c.args.vars c.args.held.now c.args.budget c.args.chunk_limit
+    given c.args.entries.now c.args.vars c.args.held.now c.args.budget c.args.chunk_limit
     (buffers c.args.status.now c.args.calls.now c.args.ways.now c.args.hints.now c.args.log.now) in
     let checked : c.refuse-checked.result ≡ found (refusal_of the_given) =
-        checked_is the_given c.out_of_limits-bad_limits.ensures c.too_short-short.ensures c.refuse-checked.ensures in
+    checked_is the_given c.out_of_limits-bad_limits.ensures c.too_short-short.ensures c.refuse-checked.ensures in
     let said : NotRefused ≡ found (refusal_of the_given) =
-        sym c.in-Accepted.is ∙ checked in
+    sym c.in-Accepted.is ∙ checked in
     let open_run : Accepted the_given =
-        accepted the_given said in
+    accepted the_given said in
     open_run.listed.lent.hints_fit
 
 pub slice_bounds-held_run-end-in-Accepted-8 : goal.slice_bounds-held_run-end-in-Accepted-8
 slice_bounds-held_run-end-in-Accepted-8 c =
     let the_given : Given =
-        given c.args.entries.now c.args.vars c.args.held.now c.args.budget c.args.chunk_limit
+    given c.args.entries.now c.args.vars c.args.held.now c.args.budget c.args.chunk_limit
     (buffers c.args.status.now c.args.calls.now c.args.ways.now c.args.hints.now c.args.log.now) in
     let checked : c.refuse-checked.result ≡ found (refusal_of the_given) =
-        checked_is the_given c.out_of_limits-bad_limits.ensures c.too_short-short.ensures c.refuse-checked.ensures in
+    checked_is the_given c.out_of_limits-bad_limits.ensures c.too_short-short.ensures c.refuse-checked.ensures in
     let said : NotRefused ≡ found (refusal_of the_given) =
-        sym c.in-Accepted.is ∙ checked in
+    sym c.in-Accepted.is ∙ checked in
     let open_run : Accepted the_given =
-        accepted the_given said in
+    accepted the_given said in
     front_len _ _ open_run.listed.lent.hints_fit
 
 pub slice_bounds-held_run-end-in-Accepted-9 : goal.slice_bounds-held_run-end-in-Accepted-9
 slice_bounds-held_run-end-in-Accepted-9 c =
     let the_given : Given =
-        given c.args.entries.now c.args.vars c.args.held.now c.args.budget c.args.chunk_limit
+    given c.args.entries.now c.args.vars c.args.held.now c.args.budget c.args.chunk_limit
     (buffers c.args.status.now c.args.calls.now c.args.ways.now c.args.hints.now c.args.log.now) in
     let checked : c.refuse-checked.result ≡ found (refusal_of the_given) =
-        checked_is the_given c.out_of_limits-bad_limits.ensures c.too_short-short.ensures c.refuse-checked.ensures in
+    checked_is the_given c.out_of_limits-bad_limits.ensures c.too_short-short.ensures c.refuse-checked.ensures in
     let said : NotRefused ≡ found (refusal_of the_given) =
-        sym c.in-Accepted.is ∙ checked in
+    sym c.in-Accepted.is ∙ checked in
     let open_run : Accepted the_given =
-        accepted the_given said in
+    accepted the_given said in
     open_run.listed.lent.log_fits
 
 pub slice_bounds-held_run-end-in-Accepted-10 : goal.slice_bounds-held_run-end-in-Accepted-10
 slice_bounds-held_run-end-in-Accepted-10 c =
     let the_given : Given =
-        given c.args.entries.now c.args.vars c.args.held.now c.args.budget c.args.chunk_limit
+    given c.args.entries.now c.args.vars c.args.held.now c.args.budget c.args.chunk_limit
     (buffers c.args.status.now c.args.calls.now c.args.ways.now c.args.hints.now c.args.log.now) in
     let checked : c.refuse-checked.result ≡ found (refusal_of the_given) =
-        checked_is the_given c.out_of_limits-bad_limits.ensures c.too_short-short.ensures c.refuse-checked.ensures in
+    checked_is the_given c.out_of_limits-bad_limits.ensures c.too_short-short.ensures c.refuse-checked.ensures in
     let said : NotRefused ≡ found (refusal_of the_given) =
-        sym c.in-Accepted.is ∙ checked in
+    sym c.in-Accepted.is ∙ checked in
     let open_run : Accepted the_given =
-        accepted the_given said in
+    accepted the_given said in
     front_len _ _ open_run.listed.lent.log_fits
 
 pub held_run-requires : goal.held_run-requires
 held_run-requires c =
     let the_given : Given =
-        given c.args.entries.now c.args.vars c.args.held.now c.args.budget c.args.chunk_limit
+    given c.args.entries.now c.args.vars c.args.held.now c.args.budget c.args.chunk_limit
     (buffers c.args.status.now c.args.calls.now c.args.ways.now c.args.hints.now c.args.log.now) in
     let checked : c.refuse-checked.result ≡ found (refusal_of the_given) =
-        checked_is the_given c.out_of_limits-bad_limits.ensures c.too_short-short.ensures c.refuse-checked.ensures in
+    checked_is the_given c.out_of_limits-bad_limits.ensures c.too_short-short.ensures c.refuse-checked.ensures in
     let said : NotRefused ≡ found (refusal_of the_given) =
-        sym c.in-Accepted.is ∙ checked in
+    sym c.in-Accepted.is ∙ checked in
     let open_run : Accepted the_given =
-        accepted the_given said in
+    accepted the_given said in
     let g = the_given in
     let lent = open_run.listed.lent in
     record {
@@ -193,19 +192,19 @@ held_run-requires c =
 pub returns-in-Refused : goal.returns-in-Refused
 returns-in-Refused c =
     let the_given : Given =
-        given c.args.entries.now c.args.vars c.args.held.now c.args.budget c.args.chunk_limit
+    given c.args.entries.now c.args.vars c.args.held.now c.args.budget c.args.chunk_limit
     (buffers c.args.status.now c.args.calls.now c.args.ways.now c.args.hints.now c.args.log.now) in
     let checked : c.refuse-checked.result ≡ found (refusal_of the_given) =
-        checked_is the_given c.out_of_limits-bad_limits.ensures c.too_short-short.ensures c.refuse-checked.ensures in
+    checked_is the_given c.out_of_limits-bad_limits.ensures c.too_short-short.ensures c.refuse-checked.ensures in
     runs_refused the_given (sym c.in-Refused.is ∙ checked)
 
 pub returns-in-Accepted : goal.returns-in-Accepted
 returns-in-Accepted c =
     let the_given : Given =
-        given c.args.entries.now c.args.vars c.args.held.now c.args.budget c.args.chunk_limit
+    given c.args.entries.now c.args.vars c.args.held.now c.args.budget c.args.chunk_limit
     (buffers c.args.status.now c.args.calls.now c.args.ways.now c.args.hints.now c.args.log.now) in
     let checked : c.refuse-checked.result ≡ found (refusal_of the_given) =
-        checked_is the_given c.out_of_limits-bad_limits.ensures c.too_short-short.ensures c.refuse-checked.ensures in
+    checked_is the_given c.out_of_limits-bad_limits.ensures c.too_short-short.ensures c.refuse-checked.ensures in
     let said : NotRefused ≡ found (refusal_of the_given) =
-        sym c.in-Accepted.is ∙ checked in
+    sym c.in-Accepted.is ∙ checked in
     runs_accepted the_given said c.held_run.ensures

@@ -1,6 +1,5 @@
 -- `print` meets its contract: nothing in a short buffer, the line in others. Assumes nothing.
 use mathlib.Core.Path.{refl}
-use borrow.Author.Rules.{rules}
 use Rattle.claims_printed.proofs.VerdictLaws.{prints_short, whole_room, prints_verdict}
 use Rattle.claims_printed.proofs.print.Goals as goal
 

@@ -1,6 +1,5 @@
 -- `on_list` meets its contract: the starts are the list's, and the end of the closing is told. Assumes nothing.
 use native.Mathlib.Omega.{arith}
-use borrow.Author.Rules.{rules}
 use Rattle.backbone.proofs.ListingLaws.{found_formula, front_len}
 use Rattle.closing.proofs.CloseLaws.{done_told}
 use Rattle.closing.proofs.on_list.Goals as goal

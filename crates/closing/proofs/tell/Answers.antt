@@ -1,6 +1,5 @@
 -- `tell` meets its contract: after a clash zeros, otherwise the values as they are, with those set counted. Assumes nothing.
 use native.Mathlib.Omega.{arith}
-use borrow.Author.Rules.{rules}
 use Rattle.rules.specs.Lists.{is_set}
 use Rattle.rules.proofs.ListLaws.{count_le}
 use Rattle.closing.proofs.CloseLaws.{told_clash, told_closed}

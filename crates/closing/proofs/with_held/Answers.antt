@@ -1,7 +1,6 @@
 -- `with_held` meets its contract: the list that is made is the entries with the held literals behind them. Assumes nothing.
 use mathlib.Core.Path.{sym, ◌∙◌, ap}
 use lib.ListN.{length}
-use borrow.Author.Rules.{rules}
 use Rattle.held.proofs.StoredLaws.{put_front}
 use Rattle.closing.proofs.with_held.Goals as goal
 

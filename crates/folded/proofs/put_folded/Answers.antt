@@ -3,7 +3,6 @@ use mathlib.Core.Path.{◌≡◌, sym, ap}
 use mathlib.Core.List.{List, ◌++◌}
 use Prim.Native.Nat.{ℕ, ◌+◌}
 use native.Mathlib.Omega.{arith}
-use borrow.Author.Rules.{rules}
 use lib.ListN.{length}
 use Rattle.rules.specs.Lists.{pieces}
 use Rattle.rules.specs.Meaning.{clauses}
@@ -29,61 +28,61 @@ overflow_add-forced c =
 pub put_header-behind_header-requires : goal.put_header-behind_header-requires
 put_header-behind_header-requires c =
     let header : List ℕ =
-        header_text (length c.args.values.now) (c.args.forced + c.count_others-count.result) in
+    header_text (length c.args.values.now) (c.args.forced + c.count_others-count.result) in
     let units : List ℕ =
-        pieces unit_line 1 c.args.values.now in
+    pieces unit_line 1 c.args.values.now in
     let others : List ℕ =
-        pieces (other_line c.args.values.now) 1 (clauses c.args.entries.now) in
+    pieces (other_line c.args.values.now) 1 (clauses c.args.entries.now) in
     let whole : let a = c.args in header ++ (units ++ others) ≡ folded_text a.values.now (clauses a.entries.now) a.forced =
-        let a = c.args in
+    let a = c.args in
     ap (λ (n : ℕ). header_text (length a.values.now) (a.forced + n) ++ (units ++ others)) c.count_others-count.ensures in
     let room : Room 0 (header ++ (units ++ others)) c.args.out.now =
-        room_same (sym whole) c.requires.room in
+    room_same (sym whole) c.requires.room in
     room_first header (units ++ others) room
 
 pub put_units-behind_units-requires : goal.put_units-behind_units-requires
 put_units-behind_units-requires c =
     let header : List ℕ =
-        header_text (length c.args.values.now) (c.args.forced + c.count_others-count.result) in
+    header_text (length c.args.values.now) (c.args.forced + c.count_others-count.result) in
     let units : List ℕ =
-        pieces unit_line 1 c.args.values.now in
+    pieces unit_line 1 c.args.values.now in
     let others : List ℕ =
-        pieces (other_line c.args.values.now) 1 (clauses c.args.entries.now) in
+    pieces (other_line c.args.values.now) 1 (clauses c.args.entries.now) in
     let whole : let a = c.args in header ++ (units ++ others) ≡ folded_text a.values.now (clauses a.entries.now) a.forced =
-        let a = c.args in
+    let a = c.args in
     ap (λ (n : ℕ). header_text (length a.values.now) (a.forced + n) ++ (units ++ others)) c.count_others-count.ensures in
     let room : Room 0 (header ++ (units ++ others)) c.args.out.now =
-        room_same (sym whole) c.requires.room in
+    room_same (sym whole) c.requires.room in
     let room_header : Room c.put_header-behind_header.result (units ++ others) c.put_header-behind_header.new.out =
-        room_then header (units ++ others) room c.put_header-behind_header.ensures in
+    room_then header (units ++ others) room c.put_header-behind_header.ensures in
     (room_first units others room_header, c.requires.formula.vars_fit)
 
 pub put_others-requires : goal.put_others-requires
 put_others-requires c =
     let header : List ℕ =
-        header_text (length c.args.values.now) (c.args.forced + c.count_others-count.result) in
+    header_text (length c.args.values.now) (c.args.forced + c.count_others-count.result) in
     let units : List ℕ =
-        pieces unit_line 1 c.args.values.now in
+    pieces unit_line 1 c.args.values.now in
     let others : List ℕ =
-        pieces (other_line c.args.values.now) 1 (clauses c.args.entries.now) in
+    pieces (other_line c.args.values.now) 1 (clauses c.args.entries.now) in
     let whole : let a = c.args in header ++ (units ++ others) ≡ folded_text a.values.now (clauses a.entries.now) a.forced =
-        let a = c.args in
+    let a = c.args in
     ap (λ (n : ℕ). header_text (length a.values.now) (a.forced + n) ++ (units ++ others)) c.count_others-count.ensures in
     let room : Room 0 (header ++ (units ++ others)) c.args.out.now =
-        room_same (sym whole) c.requires.room in
+    room_same (sym whole) c.requires.room in
     let room_header : Room c.put_header-behind_header.result (units ++ others) c.put_header-behind_header.new.out =
-        room_then header (units ++ others) room c.put_header-behind_header.ensures in
+    room_then header (units ++ others) room c.put_header-behind_header.ensures in
     (c.requires.formula, room_then units others room_header c.put_units-behind_units.ensures)
 
 pub returns : goal.returns
 returns c =
     let header : List ℕ =
-        header_text (length c.args.values.now) (c.args.forced + c.count_others-count.result) in
+    header_text (length c.args.values.now) (c.args.forced + c.count_others-count.result) in
     let units : List ℕ =
-        pieces unit_line 1 c.args.values.now in
+    pieces unit_line 1 c.args.values.now in
     let others : List ℕ =
-        pieces (other_line c.args.values.now) 1 (clauses c.args.entries.now) in
+    pieces (other_line c.args.values.now) 1 (clauses c.args.entries.now) in
     let whole : let a = c.args in header ++ (units ++ others) ≡ folded_text a.values.now (clauses a.entries.now) a.forced =
-        let a = c.args in
+    let a = c.args in
     ap (λ (n : ℕ). header_text (length a.values.now) (a.forced + n) ++ (units ++ others)) c.count_others-count.ensures in
     put_same whole (put_then c.put_header-behind_header.ensures (put_then c.put_units-behind_units.ensures c.put_others.ensures))

@@ -1,6 +1,5 @@
 -- `print` meets its contract: nothing in a short buffer, the table in others. Assumes nothing.
 use mathlib.Core.Path.{refl}
-use borrow.Author.Rules.{rules}
 use Rattle.groups_printed.proofs.TableLaws.{prints_short, whole_room, prints_table}
 use Rattle.groups_printed.proofs.print.Goals as goal
 

@@ -3,7 +3,6 @@ use mathlib.Core.Path.{◌∙◌}
 use Prim.Native.Nat.{◌-◌}
 use lib.IntN.{pos}
 use lib.ListN.{length, get_or}
-use borrow.Author.Rules.{rules}
 use Rattle.refusals.proofs.RefuseLaws.{is_zero_bits, is_ended_read, is_ended_empty}
 use Rattle.refusals.proofs.is_ended.Goals as goal
 

@@ -1,10 +1,7 @@
 -- `nth_zero` meets its contract. Assumes nothing.
-use Prim.Native.Nat.{◌-◌}
-use borrow.Author.Rules.{rules}
 use lib.IntN.{ℤ, pos}
-use lib.ListN.{length, get_or}
-use Rattle.rules.specs.Lists.{is_zero}
-use Rattle.refusals.proofs.RefuseLaws.{Seek, seek_start, seek_pass, seek_count, seek_found, seek_done, is_zero_same, is_zero_other}
+use lib.ListN.{get_or}
+use Rattle.refusals.proofs.RefuseLaws.{seek_start, seek_pass, seek_count, seek_found, seek_done, is_zero_same, is_zero_other}
 use Rattle.refusals.proofs.nth_zero.Goals as goal
 
 pub loop-i-init : goal.loop-i-init
@@ -14,21 +11,21 @@ loop-i-init c =
 pub returns-then-left-eq0 : goal.returns-then-left-eq0
 returns-then-left-eq0 c =
     let here : ℤ =
-        get_or c.args.entries.now c.loop-i.i (pos 0) in
+    get_or c.args.entries.now c.loop-i.i (pos 0) in
     seek_found c.loop-i.invariant c.loop-i-test.true
     (is_zero_same here c.entry-1.given c.if-entry-eq0.true) c.if-left-eq0.true
 
 pub loop-i-preserved-then-entry-eq0 : goal.loop-i-preserved-then-entry-eq0
 loop-i-preserved-then-entry-eq0 c =
     let here : ℤ =
-        get_or c.args.entries.now c.loop-i.i (pos 0) in
+    get_or c.args.entries.now c.loop-i.i (pos 0) in
     seek_count c.loop-i.invariant c.loop-i-test.true
     (is_zero_same here c.entry-1.given c.if-entry-eq0.true) c.if-left-eq0.false
 
 pub loop-i-preserved : goal.loop-i-preserved
 loop-i-preserved c =
     let here : ℤ =
-        get_or c.args.entries.now c.loop-i.i (pos 0) in
+    get_or c.args.entries.now c.loop-i.i (pos 0) in
     seek_pass c.loop-i.invariant c.loop-i-test.true (is_zero_other here c.if-entry-eq0.false)
 
 pub returns : goal.returns

@@ -1,11 +1,9 @@
 -- `nth_zero` meets its contract. The invariant of its loop: the index looked for is that in what is left. The measure is what
 -- is left. Assumes nothing.
 use Prim.Native.Nat.{◌-◌}
-use borrow.Author.Rules.{rules}
-use lib.IntN.{ℤ, pos}
-use lib.ListN.{length, get_or}
+use lib.ListN.{length}
 use Rattle.rules.specs.Lists.{is_zero}
-use Rattle.refusals.proofs.RefuseLaws.{Seek, seek_start, seek_pass, seek_count, seek_found, seek_done, is_zero_same, is_zero_other}
+use Rattle.refusals.proofs.RefuseLaws.{Seek}
 use Rattle.refusals.proofs.nth_zero.Given as goal
 
 abbrev pub invariant-loop-i : goal.invariant-loop-i

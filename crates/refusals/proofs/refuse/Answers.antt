@@ -1,6 +1,5 @@
 -- `refuse` meets its contract: each way out by the first test that passes. Assumes nothing.
 use mathlib.Core.Path.{◌∙◌, ap₂}
-use borrow.Author.Rules.{rules}
 use Rattle.rules.specs.Held.{held_rules}
 use Rattle.rules.specs.Answer.{list_rules}
 use Rattle.refusals.specs.Refuse.{or_rest}

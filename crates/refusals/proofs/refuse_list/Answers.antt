@@ -2,8 +2,6 @@
 use mathlib.Core.Path.{◌≡◌, sym, ◌∙◌}
 use mathlib.Core.Bool.{true}
 use Prim.Native.Nat.{◌≤◌}
-use borrow.Author.Rules.{rules}
-use borrow.Author.Tests.{not-true, not-false}
 use lib.ListN.{length}
 use Rattle.rules.specs.Lists.{nth_index, is_zero}
 use Rattle.rules.specs.Numbers.{max_clauses}
@@ -23,7 +21,7 @@ returns-then-not-is_ended c =
 pub returns-then-over-entries : goal.returns-then-over-entries
 returns-then-over-entries c =
     let ended : is_ended c.args.entries.now ≡ true =
-        sym c.is_ended.ensures ∙ c.if-not-is_ended.false in
+    sym c.is_ended.ensures ∙ c.if-not-is_ended.false in
     let a = c.args in
     let n = c.nth_zero-over in
     rw n.ensures (zero_over_found a.entries.now a.vars c.if-entries-gt-MAX_ENTRIES.false ended (rw (← n.ensures) c.if-over-entries.true))
@@ -31,9 +29,9 @@ returns-then-over-entries c =
 pub returns-then-above-entries : goal.returns-then-above-entries
 returns-then-above-entries c =
     let ended : is_ended c.args.entries.now ≡ true =
-        sym c.is_ended.ensures ∙ c.if-not-is_ended.false in
+    sym c.is_ended.ensures ∙ c.if-not-is_ended.false in
     let few : let es = c.args.entries.now in length es ≤ nth_index is_zero es max_clauses =
-        rw (← c.nth_zero-over.ensures) c.if-over-entries.false in
+    rw (← c.nth_zero-over.ensures) c.if-over-entries.false in
     let a = c.args in
     let n = c.first_above-above in
     rw n.ensures
@@ -42,9 +40,9 @@ returns-then-above-entries c =
 pub returns : goal.returns
 returns c =
     let ended : is_ended c.args.entries.now ≡ true =
-        sym c.is_ended.ensures ∙ c.if-not-is_ended.false in
+    sym c.is_ended.ensures ∙ c.if-not-is_ended.false in
     let few : let es = c.args.entries.now in length es ≤ nth_index is_zero es max_clauses =
-        rw (← c.nth_zero-over.ensures) c.if-over-entries.false in
+    rw (← c.nth_zero-over.ensures) c.if-over-entries.false in
     let a = c.args in
     let n = c.first_above-above in
     list_found_lem a.entries.now a.vars c.if-entries-gt-MAX_ENTRIES.false ended few (rw (← n.ensures) c.if-above-entries.false)

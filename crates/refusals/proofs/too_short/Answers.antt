@@ -1,5 +1,4 @@
 -- `too_short` meets its contract: by the tests on the way, in the order of the definition. Assumes nothing.
-use borrow.Author.Rules.{rules}
 use borrow.Author.Tests.{lt-ltb, le-ltb}
 use Rattle.refusals.proofs.too_short.Goals as goal
 

@@ -1,6 +1,5 @@
 -- `on_list` meets its contract: the starts are the list's, and the end of the first call is told. Assumes nothing.
 use native.Mathlib.Omega.{arith}
-use borrow.Author.Rules.{rules}
 use Rattle.backbone.proofs.ListingLaws.{found_formula, front_len}
 use Rattle.setup.proofs.SetupLaws.{done_told}
 use Rattle.setup.proofs.on_list.Goals as goal

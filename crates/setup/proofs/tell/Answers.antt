@@ -1,6 +1,5 @@
 -- `tell` meets its contract: the report by the end, the values by its outcome. Assumes nothing.
 use mathlib.Core.Path.{ap}
-use borrow.Author.Rules.{rules}
 use Rattle.rules.specs.declared.RunAnswer.{RunAnswer}
 use Rattle.setup.proofs.tell.Goals as goal
 

@@ -1,5 +1,4 @@
 -- `made` meets its contract: the buffers are those of the run that is made. Assumes nothing.
-use borrow.Author.Rules.{rules}
 use Rattle.texts.specs.Shorter.{shorter_given}
 use Rattle.shorter.proofs.MadeLaws.{lent}
 use Rattle.shorter.proofs.made.Goals as goal

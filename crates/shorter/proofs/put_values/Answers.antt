@@ -2,7 +2,6 @@
 use mathlib.Core.Path.{sym, ◌∙◌, ap}
 use native.Mathlib.Omega.{arith}
 use lib.Seq.{length-take-le}
-use borrow.Author.Rules.{rules}
 use Rattle.rules.specs.Meaning.{Values, clauses}
 use Rattle.formula.proofs.StartsLaws.{found_front}
 use Rattle.buffers.proofs.PutLaws.{put_same}

@@ -1,6 +1,5 @@
 -- `print` meets its contract: nothing in a short buffer, the shorter file in others. Assumes nothing.
 use mathlib.Core.Path.{refl}
-use borrow.Author.Rules.{rules}
 use Rattle.shorter_printed.proofs.TextLaws.{prints_short, prints_text}
 use Rattle.shorter_printed.proofs.print.Goals as goal
 

@@ -1,6 +1,5 @@
 -- `print` meets its contract: nothing in a short buffer, the answer in others. Assumes nothing.
 use mathlib.Core.Path.{refl}
-use borrow.Author.Rules.{rules}
 use Rattle.why_printed.proofs.AnswerLaws.{prints_short, whole_room, prints_answer}
 use Rattle.why_printed.proofs.print.Goals as goal
 

@@ -4,7 +4,6 @@ use mathlib.Core.Path.{sym, ◌∙◌, ap}
 use Prim.Native.Nat.{ℕ}
 use native.Mathlib.Omega.{arith}
 use lib.ListN.{replicate}
-use borrow.Author.Rules.{rules}
 use Rattle.backbone.proofs.ListingLaws.{found_formula, cleared, front_len}
 use Rattle.backbone.proofs.first.accepted_run.Goals as goal
 

@@ -1,11 +1,9 @@
 -- `first::all_calls` meets its contract: the board is begun, and then the run, by what its first call ended with. Assumes nothing.
 use mathlib.Core.Path.{refl, ◌∙◌}
 use native.Mathlib.Omega.{arith}
-use borrow.Author.Rules.{rules}
 use lib.ListN.{length}
 use Rattle.rules.specs.Run.{Task, blank, first_call}
 use Rattle.search.specs.Calls.{CallEnds}
-use Rattle.search.proofs.CallLaws.{not_model}
 use Rattle.calls.specs.Next.{task}
 use Rattle.search.proofs.EndLaws.{was_model}
 use Rattle.backbone.proofs.FirstLaws.{kept_len, row_begun, first_called, done_by_row}
@@ -23,10 +21,10 @@ first_in-end-requires c =
 pub settle-requires : goal.settle-requires
 settle-requires c =
     let the_task : Task =
-        task c.args.entries.now (length c.args.status.now) c.args.limits in
+    task c.args.entries.now (length c.args.status.now) c.args.limits in
     let ended : CallEnds (first_call the_task) (blank (length c.args.values.now)) c.args.limits.budget c.first_in-end.result
     c.first_in-end.new.values =
-        first_called c.args.entries.now c.args.limits c.requires.0.values_len c.first_in-end.ensures.0 in
+    first_called c.args.entries.now c.args.limits c.requires.0.values_len c.first_in-end.ensures.0 in
     let p = c.requires.0 in (
       record {
         begins = p.begins;
@@ -57,9 +55,9 @@ row_only-requires c =
 pub returns : goal.returns
 returns c =
     let the_task : Task =
-        task c.args.entries.now (length c.args.status.now) c.args.limits in
+    task c.args.entries.now (length c.args.status.now) c.args.limits in
     let ended : CallEnds (first_call the_task) (blank (length c.args.values.now)) c.args.limits.budget c.first_in-end.result
     c.first_in-end.new.values =
-        first_called c.args.entries.now c.args.limits c.requires.0.values_len c.first_in-end.ensures.0 in
+    first_called c.args.entries.now c.args.limits c.requires.0.values_len c.first_in-end.ensures.0 in
     done_by_row c.args.entries.now c.args.limits _ c.requires.0.begins.cleared c.started.ensures refl ended
     c.in_default.not-Model c.row_only.ensures

@@ -1,7 +1,6 @@
 -- `first::first_call` meets its contract: the values are cleared, and the clauses are the formula's alone. Assumes nothing.
 use native.Mathlib.Omega.{arith}
 use lib.ListN.{length}
-use borrow.Author.Rules.{rules}
 use Rattle.rules.proofs.ClauseLaws.{clauses_le}
 use Rattle.formula.proofs.ClauseLaws.{length_starts}
 use Rattle.search.proofs.WholeLaws.{call_blank, formula_clauses}

@@ -1,7 +1,6 @@
 -- `first::first_in` meets its contract: the values are cleared, the clauses are the formula's alone, and the board is kept. Assumes nothing.
 use native.Mathlib.Omega.{arith}
 use lib.ListN.{length}
-use borrow.Author.Rules.{rules}
 use Rattle.rules.proofs.ClauseLaws.{clauses_le}
 use Rattle.formula.proofs.ClauseLaws.{length_starts}
 use Rattle.search.proofs.WholeLaws.{call_blank, formula_clauses}
@@ -25,8 +24,7 @@ call_in-requires c =
     }
 
 pub returns : goal.returns
-returns c =
-    (
-      ends_same 0 (formula_clauses c.requires.0) c.clear_bytes.ensures c.call_in.ensures.calls,
-      rw c.clear_bytes.auto.bytes at c.call_in.ensures.kept,
-    )
+returns c = (
+  ends_same 0 (formula_clauses c.requires.0) c.clear_bytes.ensures c.call_in.ensures.calls,
+  rw c.clear_bytes.auto.bytes at c.call_in.ensures.kept,
+)

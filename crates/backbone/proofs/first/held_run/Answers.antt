@@ -1,7 +1,6 @@
 -- `first::held_run` meets its contract: the list that is made is the entries with the held literals behind them. Assumes nothing.
 use mathlib.Core.Path.{sym, ◌∙◌, ap}
 use lib.ListN.{length}
-use borrow.Author.Rules.{rules}
 use Rattle.held.proofs.StoredLaws.{put_front}
 use Rattle.backbone.proofs.first.held_run.Goals as goal
 

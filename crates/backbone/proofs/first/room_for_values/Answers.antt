@@ -1,6 +1,5 @@
 -- `first::room_for_values` meets its contract: the front is as long as the statuses, and the blocks are blank. Assumes nothing.
 use mathlib.Core.Path.{sym}
-use borrow.Author.Rules.{rules}
 use Rattle.board.proofs.ConstraintLaws.{blank_at}
 use Rattle.backbone.proofs.ListingLaws.{front_len}
 use Rattle.backbone.proofs.first.room_for_values.Goals as goal

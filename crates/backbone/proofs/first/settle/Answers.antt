@@ -1,7 +1,6 @@
 -- `first::settle` meets its contract: the run is where its first call has brought it, and the other calls follow from there.
 -- Assumes nothing.
 use mathlib.Core.Path.{◌≡◌, refl, sym, ◌∙◌, ap}
-use borrow.Author.Rules.{rules}
 use lib.ListN.{length}
 use Rattle.rules.specs.Meaning.{Values}
 use Rattle.rules.specs.Search.{Call}
@@ -18,9 +17,9 @@ use Rattle.backbone.proofs.first.settle.Goals as goal
 pub after_model-next-requires : goal.after_model-next-requires
 after_model-next-requires c =
     let the_model : Values =
-        c.args.values.now in
+    c.args.values.now in
     let kept_model : c.copy_first.new.to ≡ the_model =
-        copied_whole c.args.values.now c.args.first.now (c.requires.0.begins.first_len ∙ sym c.requires.0.values_len) c.copy_first.ensures in
+    copied_whole c.args.values.now c.args.first.now (c.requires.0.begins.first_len ∙ sym c.requires.0.values_len) c.copy_first.ensures in
     let b = c.requires.0.begins in
     let n = c.requires.0.values_len in
     record {
@@ -32,9 +31,9 @@ after_model-next-requires c =
 pub put_records-requires : goal.put_records-requires
 put_records-requires c =
     let the_model : Values =
-        c.args.values.now in
+    c.args.values.now in
     let kept_model : c.copy_first.new.to ≡ the_model =
-        copied_whole c.args.values.now c.args.first.now (c.requires.0.begins.first_len ∙ sym c.requires.0.values_len) c.copy_first.ensures in
+    copied_whole c.args.values.now c.args.first.now (c.requires.0.begins.first_len ∙ sym c.requires.0.values_len) c.copy_first.ensures in
     let kept = c.after_model-next.auto in
     let len = kept.status in
     let lent = cleared_lent c.requires.0.begins.cleared in
@@ -48,15 +47,15 @@ put_records-requires c =
 pub run_calls-requires : goal.run_calls-requires
 run_calls-requires c =
     let the_task : Task =
-        task c.args.entries.now (length c.args.status.now) c.args.limits in
+    task c.args.entries.now (length c.args.status.now) c.args.limits in
     let the_model : Values =
-        c.args.values.now in
+    c.args.values.now in
     let kept_model : c.copy_first.new.to ≡ the_model =
-        copied_whole c.args.values.now c.args.first.now (c.requires.0.begins.first_len ∙ sym c.requires.0.values_len) c.copy_first.ensures in
+    copied_whole c.args.values.now c.args.first.now (c.requires.0.begins.first_len ∙ sym c.requires.0.values_len) c.copy_first.ensures in
     let there : (c.after_model-next.result.size ≡ 1)
     × Shows (length c.args.status.now) (after_model the_task (begun the_task the_model) 0 the_model c.args.spent)
     c.after_model-next.result c.copy_first.new.to c.after_model-next.new.status c.after_model-next.new.log =
-        let k = the_task in
+    let k = the_task in
     let m = the_model in
     let z = c.requires.0.begins.cleared in
     shows_model k (begun k m) _ (shows_begun z k m _ c.started-t.ensures refl kept_model c.requires.0.values_len)
@@ -108,22 +107,22 @@ shape_of-log c =
 pub returns : goal.returns
 returns c =
     let the_task : Task =
-        task c.args.entries.now (length c.args.status.now) c.args.limits in
+    task c.args.entries.now (length c.args.status.now) c.args.limits in
     let the_model : Values =
-        c.args.values.now in
+    c.args.values.now in
     let kept_model : c.copy_first.new.to ≡ the_model =
-        copied_whole c.args.values.now c.args.first.now (c.requires.0.begins.first_len ∙ sym c.requires.0.values_len) c.copy_first.ensures in
+    copied_whole c.args.values.now c.args.first.now (c.requires.0.begins.first_len ∙ sym c.requires.0.values_len) c.copy_first.ensures in
     let there : (c.after_model-next.result.size ≡ 1)
     × Shows (length c.args.status.now) (after_model the_task (begun the_task the_model) 0 the_model c.args.spent)
     c.after_model-next.result c.copy_first.new.to c.after_model-next.new.status c.after_model-next.new.log =
-        let k = the_task in
+    let k = the_task in
     let m = the_model in
     let z = c.requires.0.begins.cleared in
     shows_model k (begun k m) _ (shows_begun z k m _ c.started-t.ensures refl kept_model c.requires.0.values_len)
     (room_begun z _ c.started-t.ensures) refl c.after_model-next.ensures in
     let shown : ShowsRecords (after_model the_task (begun the_task the_model) 0 the_model c.args.spent).records
     c.put_records.new.calls c.put_records.new.ways =
-        let x = there.1 in
+    let x = there.1 in
     records_first the_task the_model c.args.spent (shows_none c.requires.0.begins.cleared) x.calls_is kept_model
     c.after_model-next.ensures.flips.model_same x.status_is c.put_records.ensures in
     let k = the_task in

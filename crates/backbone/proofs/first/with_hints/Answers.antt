@@ -1,6 +1,5 @@
 -- `first::with_hints` meets its contract: what the first call left is judged once the run is done. Assumes nothing.
 use mathlib.Core.Path.{sym, ◌∙◌}
-use borrow.Author.Rules.{rules}
 use Rattle.backbone.proofs.FirstLaws.{hints_done}
 use Rattle.backbone.proofs.first.with_hints.Goals as goal
 

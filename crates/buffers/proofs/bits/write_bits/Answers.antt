@@ -1,9 +1,7 @@
 -- `buffers::bits::write_bits` meets its contract. Assumes nothing.
-use Prim.Native.Nat.{◌-◌}
 use native.Mathlib.Omega.{arith}
-use lib.ListN.{length, length-set}
-use Rattle.buffers.proofs.BitsLaws.{Bits, bits_start, bits_step, bits_done}
-use borrow.Author.Rules.{rules}
+use lib.ListN.{length-set}
+use Rattle.buffers.proofs.BitsLaws.{bits_start, bits_step, bits_done}
 use Rattle.buffers.proofs.bits.write_bits.Goals as goal
 
 pub loop-i-init : goal.loop-i-init

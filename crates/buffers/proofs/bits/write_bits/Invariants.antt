@@ -1,9 +1,7 @@
 -- `buffers::bits::write_bits` meets its contract. The invariant of its loop: the first i are bits, the others as they were. Assumes nothing.
 use Prim.Native.Nat.{◌-◌}
-use native.Mathlib.Omega.{arith}
-use lib.ListN.{length, length-set}
-use Rattle.buffers.proofs.BitsLaws.{Bits, bits_start, bits_step, bits_done}
-use borrow.Author.Rules.{rules}
+use lib.ListN.{length}
+use Rattle.buffers.proofs.BitsLaws.{Bits}
 use Rattle.buffers.proofs.bits.write_bits.Given as goal
 
 abbrev pub invariant-loop-i : goal.invariant-loop-i

@@ -1,10 +1,9 @@
 -- `buffers::clear::clear_bytes` meets its contract. Assumes nothing.
-use mathlib.Core.Path.{◌≡◌, refl, sym, ◌∙◌}
-use Prim.Native.Nat.{ℕ, ◌-◌}
+use mathlib.Core.Path.{refl, sym, ◌∙◌}
+use Prim.Native.Nat.{ℕ}
 use native.Mathlib.Omega.{arith}
-use borrow.Author.Rules.{rules}
-use lib.ListN.{length, length-set, replicate, length-replicate, get_or-replicate}
-use Rattle.buffers.proofs.FillLaws.{Filled, filled_start, filled_step, filled_done}
+use lib.ListN.{length, length-set, length-replicate, get_or-replicate}
+use Rattle.buffers.proofs.FillLaws.{filled_start, filled_step, filled_done}
 use Rattle.buffers.proofs.clear.clear_bytes.Goals as goal
 
 pub loop-i-init : goal.loop-i-init

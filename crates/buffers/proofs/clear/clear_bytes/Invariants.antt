@@ -1,10 +1,8 @@
 -- `buffers::clear::clear_bytes` meets its contract. The invariant of its loop: the front is filled with zeros. Assumes nothing.
-use mathlib.Core.Path.{◌≡◌, refl, sym, ◌∙◌}
-use Prim.Native.Nat.{ℕ, ◌-◌}
-use native.Mathlib.Omega.{arith}
-use borrow.Author.Rules.{rules}
-use lib.ListN.{length, length-set, replicate, length-replicate, get_or-replicate}
-use Rattle.buffers.proofs.FillLaws.{Filled, filled_start, filled_step, filled_done}
+use mathlib.Core.Path.{◌≡◌}
+use Prim.Native.Nat.{◌-◌}
+use lib.ListN.{length, replicate}
+use Rattle.buffers.proofs.FillLaws.{Filled}
 use Rattle.buffers.proofs.clear.clear_bytes.Given as goal
 
 abbrev pub invariant-loop-i : goal.invariant-loop-i

@@ -1,9 +1,9 @@
 -- `buffers::copy::copy_first` meets its contract. Assumes nothing.
 use mathlib.Core.Path.{◌≡◌, refl, ◌∙◌, ap}
-use mathlib.Core.List.{List, ◌++◌}
-use Prim.Native.Nat.{ℕ, ◌-◌, ◌≤◌}
+use mathlib.Core.List.{List}
+use Prim.Native.Nat.{ℕ}
 use native.Mathlib.Omega.{arith}
-use lib.ListN.{get_or, set, length, take, drop, length-set}
+use lib.ListN.{get_or, set, length-set}
 use borrow.Author.Rules.{rules}
 use Rattle.buffers.proofs.FillLaws.{copied_more}
 use Rattle.buffers.proofs.copy.copy_first.Goals as goal

@@ -1,10 +1,6 @@
 -- `count::count_set` meets its contract. Assumes nothing.
-use Prim.Native.Nat.{◌-◌}
 use native.Mathlib.Omega.{arith}
-use borrow.Author.Rules.{rules}
-use lib.ListN.{length}
-use Rattle.rules.specs.Lists.{is_set}
-use Rattle.buffers.proofs.CountLaws.{Counting, counting_start, counting_step, counting_done}
+use Rattle.buffers.proofs.CountLaws.{counting_start, counting_step, counting_done}
 use Rattle.buffers.proofs.count.count_set.Goals as goal
 
 pub loop-i-init : goal.loop-i-init

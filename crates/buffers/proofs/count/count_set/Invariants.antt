@@ -1,11 +1,9 @@
 -- `count::count_set` meets its contract. The invariant of its loop: those before i are counted. The measure is what is left.
 -- Assumes nothing.
 use Prim.Native.Nat.{◌-◌}
-use native.Mathlib.Omega.{arith}
-use borrow.Author.Rules.{rules}
 use lib.ListN.{length}
 use Rattle.rules.specs.Lists.{is_set}
-use Rattle.buffers.proofs.CountLaws.{Counting, counting_start, counting_step, counting_done}
+use Rattle.buffers.proofs.CountLaws.{Counting}
 use Rattle.buffers.proofs.count.count_set.Given as goal
 
 abbrev pub invariant-loop-i : goal.invariant-loop-i

@@ -1,5 +1,4 @@
 -- `count::counted_if` meets its contract: one more for a byte that is not 0. Assumes nothing.
-use borrow.Author.Rules.{rules}
 use Rattle.buffers.proofs.CountLaws.{one_more_lem}
 use Rattle.buffers.proofs.count.counted_if.Goals as goal
 

@@ -3,11 +3,10 @@
 use mathlib.Core.Path.{sym}
 use mathlib.Core.List.{[], ◌∷◌}
 use native.Mathlib.Omega.{arith}
-use borrow.Author.Rules.{rules}
 use Rattle.texts.specs.Plain.{decimal, digit}
 use Rattle.texts.proofs.DecimalLaws.{decimal_small, decimal_more}
 use Rattle.buffers.proofs.PutLaws.{room_first, room_then, room_same, put_then, put_same}
-use Prim.Native.Nat.{ℕ, ◌<◌, ◌/◌, ◌%◌}
+use Prim.Native.Nat.{◌/◌, ◌%◌}
 use Rattle.buffers.proofs.put.+put_decimal.Goals as goal
 
 pub put_byte-requires : goal.put_byte-requires

@@ -1,5 +1,4 @@
 -- `buffers::put::put_field` meets its contract: the number stands behind the word. Assumes nothing.
-use borrow.Author.Rules.{rules}
 use Rattle.texts.specs.Plain.{decimal}
 use Rattle.buffers.proofs.PutLaws.{room_first, room_then, put_then}
 use Rattle.buffers.proofs.put.put_field.Goals as goal

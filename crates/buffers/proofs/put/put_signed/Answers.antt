@@ -3,7 +3,6 @@ use mathlib.Core.Path.{◌≡◌, sym, ap}
 use mathlib.Core.Bool.{Bool, true}
 use mathlib.Core.List.{[], ◌∷◌, ◌++◌}
 use Prim.Native.Nat.{ℕ}
-use borrow.Author.Rules.{rules}
 use Rattle.texts.specs.Plain.{decimal}
 use Rattle.texts.specs.ModelLine.{signed}
 use Rattle.buffers.proofs.PutLaws.{room_first, room_then, room_same, put_then, put_same}

@@ -1,9 +1,6 @@
 -- `buffers::put::put_word` meets its contract. Assumes nothing.
-use Prim.Native.Nat.{◌-◌}
 use native.Mathlib.Omega.{arith}
-use borrow.Author.Rules.{rules}
-use lib.ListN.{length}
-use Rattle.buffers.proofs.PutLaws.{Putting, putting_start, putting_step, putting_done}
+use Rattle.buffers.proofs.PutLaws.{putting_start, putting_step, putting_done}
 use Rattle.buffers.proofs.put.put_word.Goals as goal
 
 pub loop-i-init : goal.loop-i-init

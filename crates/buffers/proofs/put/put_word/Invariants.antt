@@ -1,10 +1,8 @@
 -- `buffers::put::put_word` meets its contract. The invariant of its loop: what is put and what is still to put are the word. The measure is
 -- what is left of it. Assumes nothing.
 use Prim.Native.Nat.{◌-◌}
-use native.Mathlib.Omega.{arith}
-use borrow.Author.Rules.{rules}
 use lib.ListN.{length}
-use Rattle.buffers.proofs.PutLaws.{Putting, putting_start, putting_step, putting_done}
+use Rattle.buffers.proofs.PutLaws.{Putting}
 use Rattle.buffers.proofs.put.put_word.Given as goal
 
 abbrev pub invariant-loop-i : goal.invariant-loop-i

@@ -1,7 +1,6 @@
 -- `after::after_model` meets its contract: what compare, flip and the row leave. Assumes nothing.
 use mathlib.Core.Path.{refl}
 use native.Mathlib.Omega.{arith}
-use borrow.Author.Rules.{rules}
 use Rattle.rules.specs.Run.{is_open}
 use Rattle.rules.proofs.ListLaws.{count_le}
 use Rattle.calls.proofs.after.after_model.Goals as goal

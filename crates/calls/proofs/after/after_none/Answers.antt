@@ -1,6 +1,5 @@
 -- `after::after_none` meets its contract: what forcing and the row leave. Assumes nothing.
 use native.Mathlib.Omega.{arith}
-use borrow.Author.Rules.{rules}
 use Rattle.rules.specs.Run.{is_open}
 use Rattle.rules.proofs.ListLaws.{count_le}
 use Rattle.calls.proofs.after.after_none.Goals as goal

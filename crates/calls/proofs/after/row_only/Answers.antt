@@ -1,5 +1,4 @@
 -- `after::row_only` meets its contract: the row, and the answer by what the call ended with. Assumes nothing.
-use borrow.Author.Rules.{rules}
 use Rattle.calls.proofs.after.row_only.Goals as goal
 
 pub returns : goal.returns

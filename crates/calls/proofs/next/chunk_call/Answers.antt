@@ -4,7 +4,6 @@ use mathlib.Core.Path.{◌≡◌, sym, ◌∙◌, ap}
 use mathlib.Core.List.{◌++◌, ◌∷◌, []}
 use Prim.Native.Nat.{◌≤◌}
 use native.Mathlib.Omega.{arith}
-use borrow.Author.Rules.{rules}
 use lib.ListN.{length, take}
 use lib.Seq.{length-take-le}
 use Rattle.rules.specs.Meaning.{Clause, clauses}
@@ -19,7 +18,7 @@ use Rattle.calls.proofs.next.chunk_call.Goals as goal
 pub put_constraint-requires : goal.put_constraint-requires
 put_constraint-requires c =
     let few : c.args.chunk ≤ 256 =
-        omega (arith, count_le is_open c.args.status.now, c.requires.formula.vars_fit, c.requires.status_len, c.requires.chunk_most) in
+    omega (arith, count_le is_open c.args.status.now, c.requires.formula.vars_fit, c.requires.status_len, c.requires.chunk_most) in
     let p = c.requires in
     record {
       first_len = p.first_len ∙ sym p.status_len;
@@ -35,23 +34,23 @@ overflow_cast-total c =
 pub slice_bounds-literals-end : goal.slice_bounds-literals-end
 slice_bounds-literals-end c =
     let few : c.args.chunk ≤ 256 =
-        omega (arith, count_le is_open c.args.status.now, c.requires.formula.vars_fit, c.requires.status_len, c.requires.chunk_most) in
+    omega (arith, count_le is_open c.args.status.now, c.requires.formula.vars_fit, c.requires.status_len, c.requires.chunk_most) in
     let room : c.args.chunk ≤ length c.put_constraint.new.out =
-        omega (arith, few, c.put_constraint.auto) in
+    omega (arith, few, c.put_constraint.auto) in
     room
 
 pub slice_bounds-whole_call-end : goal.slice_bounds-whole_call-end
 slice_bounds-whole_call-end c =
     let few : c.args.chunk ≤ 256 =
-        omega (arith, count_le is_open c.args.status.now, c.requires.formula.vars_fit, c.requires.status_len, c.requires.chunk_most) in
+    omega (arith, count_le is_open c.args.status.now, c.requires.formula.vars_fit, c.requires.status_len, c.requires.chunk_most) in
     let room : c.args.chunk ≤ length c.put_constraint.new.out =
-        omega (arith, few, c.put_constraint.auto) in
+    omega (arith, few, c.put_constraint.auto) in
     sym (length-take-le _ _ room)
 
 pub whole_call-requires : goal.whole_call-requires
 whole_call-requires c =
     let start_is : c.fill_start.new.values ≡ forced_values c.args.status.now =
-        c.fill_start.ensures in
+    c.fill_start.ensures in
     record {
       call =
           chunk_over c.requires.formula _ (ap length start_is ∙ length-forced_values c.args.status.now ∙ c.requires.status_len)
@@ -62,7 +61,7 @@ whole_call-requires c =
 pub returns : goal.returns
 returns c =
     let start_is : c.fill_start.new.values ≡ forced_values c.args.status.now =
-        c.fill_start.ensures in
+    c.fill_start.ensures in
     let literals = take c.args.chunk c.put_constraint.new.out in
     ends_same c.args.meter.spent
     (chunk_clauses_lem c.requires.formula literals ∙ ap (λ (con : Clause). clauses c.args.entries.now ++ con ∷ []) c.put_constraint.ensures.front)

@@ -5,7 +5,6 @@ use mathlib.Core.Path.{◌≡◌, sym, ◌∙◌, ap}
 use mathlib.Core.List.{◌++◌, ◌∷◌, []}
 use Prim.Native.Nat.{◌≤◌}
 use native.Mathlib.Omega.{arith}
-use borrow.Author.Rules.{rules}
 use lib.ListN.{length, take}
 use lib.Seq.{length-take-le}
 use Rattle.rules.specs.Meaning.{Clause, clauses}
@@ -20,7 +19,7 @@ use Rattle.calls.proofs.next.chunk_in.Goals as goal
 pub put_constraint-requires : goal.put_constraint-requires
 put_constraint-requires c =
     let few : c.args.chunk ≤ 256 =
-        omega (arith, count_le is_open c.args.status.now, c.requires.0.formula.vars_fit, c.requires.0.status_len, c.requires.0.chunk_most) in
+    omega (arith, count_le is_open c.args.status.now, c.requires.0.formula.vars_fit, c.requires.0.status_len, c.requires.0.chunk_most) in
     let p = c.requires.0 in
     record {
       first_len = p.first_len ∙ sym p.status_len;
@@ -36,23 +35,23 @@ overflow_cast-total c =
 pub slice_bounds-literals-end : goal.slice_bounds-literals-end
 slice_bounds-literals-end c =
     let few : c.args.chunk ≤ 256 =
-        omega (arith, count_le is_open c.args.status.now, c.requires.0.formula.vars_fit, c.requires.0.status_len, c.requires.0.chunk_most) in
+    omega (arith, count_le is_open c.args.status.now, c.requires.0.formula.vars_fit, c.requires.0.status_len, c.requires.0.chunk_most) in
     let room : c.args.chunk ≤ length c.put_constraint.new.out =
-        omega (arith, few, c.put_constraint.auto) in
+    omega (arith, few, c.put_constraint.auto) in
     room
 
 pub slice_bounds-call_in-end : goal.slice_bounds-call_in-end
 slice_bounds-call_in-end c =
     let few : c.args.chunk ≤ 256 =
-        omega (arith, count_le is_open c.args.status.now, c.requires.0.formula.vars_fit, c.requires.0.status_len, c.requires.0.chunk_most) in
+    omega (arith, count_le is_open c.args.status.now, c.requires.0.formula.vars_fit, c.requires.0.status_len, c.requires.0.chunk_most) in
     let room : c.args.chunk ≤ length c.put_constraint.new.out =
-        omega (arith, few, c.put_constraint.auto) in
+    omega (arith, few, c.put_constraint.auto) in
     sym (length-take-le _ _ room)
 
 pub call_in-requires : goal.call_in-requires
 call_in-requires c =
     let start_is : c.fill_start.new.values ≡ forced_values c.args.status.now =
-        c.fill_start.ensures in
+    c.fill_start.ensures in
     record {
       from = record {
         call =
@@ -67,7 +66,7 @@ call_in-requires c =
 pub returns : goal.returns
 returns c =
     let start_is : c.fill_start.new.values ≡ forced_values c.args.status.now =
-        c.fill_start.ensures in
+    c.fill_start.ensures in
     let literals = take c.args.chunk c.put_constraint.new.out in (
       ends_same c.args.meter.spent
           (chunk_clauses_lem c.requires.0.formula literals ∙

@@ -1,7 +1,6 @@
 -- `next::next_call` meets its contract: what comes of the call, by what it ended with. Assumes nothing.
 use mathlib.Core.Path.{◌≡◌, sym, ◌∙◌}
 use native.Mathlib.Omega.{arith}
-use borrow.Author.Rules.{rules}
 use lib.ListN.{length}
 use Rattle.search.specs.Rooms.{BoardKept}
 use Rattle.calls.specs.declared.after.Made.{Made}
@@ -27,9 +26,9 @@ chunk_in-end-requires c =
 pub after_model-requires : goal.after_model-requires
 after_model-requires c =
     let made : Made =
-        record { chunk = c.lesser-chunk.result; spent = c.chunk_in-end.result.meter.spent } in
+    record { chunk = c.lesser-chunk.result; spent = c.chunk_in-end.result.meter.spent } in
     let ready : TallyReady c.args.first.now c.args.status.now c.args.log.now c.args.t made =
-        let o = c.requires.0.over in
+    let o = c.requires.0.over in
     tally_ready o.allowed.some o.formula.vars_fit o.here c.requires.0.some made
     (call_up c.args.entries.now c.args.first.now c.args.status.now c.lesser-chunk.result (meter_of c.args.limits c.args.t)
     c.chunk_in-end.ensures.0) in
@@ -40,9 +39,9 @@ after_model-requires c =
 pub after_none-requires : goal.after_none-requires
 after_none-requires c =
     let made : Made =
-        record { chunk = c.lesser-chunk.result; spent = c.chunk_in-end.result.meter.spent } in
+    record { chunk = c.lesser-chunk.result; spent = c.chunk_in-end.result.meter.spent } in
     let ready : TallyReady c.args.first.now c.args.status.now c.args.log.now c.args.t made =
-        let o = c.requires.0.over in
+    let o = c.requires.0.over in
     tally_ready o.allowed.some o.formula.vars_fit o.here c.requires.0.some made
     (call_up c.args.entries.now c.args.first.now c.args.status.now c.lesser-chunk.result (meter_of c.args.limits c.args.t)
     c.chunk_in-end.ensures.0) in
@@ -56,9 +55,9 @@ after_none-requires c =
 pub row_only-requires : goal.row_only-requires
 row_only-requires c =
     let made : Made =
-        record { chunk = c.lesser-chunk.result; spent = c.chunk_in-end.result.meter.spent } in
+    record { chunk = c.lesser-chunk.result; spent = c.chunk_in-end.result.meter.spent } in
     let ready : TallyReady c.args.first.now c.args.status.now c.args.log.now c.args.t made =
-        let o = c.requires.0.over in
+    let o = c.requires.0.over in
     tally_ready o.allowed.some o.formula.vars_fit o.here c.requires.0.some made
     (call_up c.args.entries.now c.args.first.now c.args.status.now c.lesser-chunk.result (meter_of c.args.limits c.args.t)
     c.chunk_in-end.ensures.0) in
@@ -67,28 +66,27 @@ row_only-requires c =
 pub returns-in-Model : goal.returns-in-Model
 returns-in-Model c =
     let made : Made =
-        record { chunk = c.lesser-chunk.result; spent = c.chunk_in-end.result.meter.spent } in
+    record { chunk = c.lesser-chunk.result; spent = c.chunk_in-end.result.meter.spent } in
     let board_kept : BoardKept (length c.args.status.now) c.args.entries.now c.args.starts.now c.args.lists.now c.args.holders.now
     c.chunk_in-end.new.marks c.chunk_in-end.new.shown
     c.chunk_in-end.new.keys c.chunk_in-end.new.hot
     c.chunk_in-end.new.trail =
-        rw c.requires.0.over.values_len at c.chunk_in-end.ensures.1 in
+    rw c.requires.0.over.values_len at c.chunk_in-end.ensures.1 in
     let ready : TallyReady c.args.first.now c.args.status.now c.args.log.now c.args.t made =
-        let o = c.requires.0.over in
+    let o = c.requires.0.over in
     tally_ready o.allowed.some o.formula.vars_fit o.here c.requires.0.some made
     (call_up c.args.entries.now c.args.first.now c.args.status.now c.lesser-chunk.result (meter_of c.args.limits c.args.t)
     c.chunk_in-end.ensures.0) in
     let called_is : CallMade c.args.entries.now c.args.limits c.args.t c.args.first.now c.args.status.now c.args.log.now
     c.lesser-chunk.result c.chunk_in-end.result c.chunk_in-end.new.values =
-        let p = c.requires.0 in
+    let p = c.requires.0 in
     record {
       some_limit = p.over.allowed.some;
       some = p.some;
       room = ready.row.log_room_lem;
       chunk_is = c.lesser-chunk.ensures;
       ended = c.chunk_in-end.ensures.0;
-    } in
-    (
+    } in (
       λ w. on_model _ _ c.args.limits w called_is c.in-Model.is
           c.after_model.ensures,
       board_kept,
@@ -97,28 +95,27 @@ returns-in-Model c =
 pub returns-in-NoModel : goal.returns-in-NoModel
 returns-in-NoModel c =
     let made : Made =
-        record { chunk = c.lesser-chunk.result; spent = c.chunk_in-end.result.meter.spent } in
+    record { chunk = c.lesser-chunk.result; spent = c.chunk_in-end.result.meter.spent } in
     let board_kept : BoardKept (length c.args.status.now) c.args.entries.now c.args.starts.now c.args.lists.now c.args.holders.now
     c.chunk_in-end.new.marks c.chunk_in-end.new.shown
     c.chunk_in-end.new.keys c.chunk_in-end.new.hot
     c.chunk_in-end.new.trail =
-        rw c.requires.0.over.values_len at c.chunk_in-end.ensures.1 in
+    rw c.requires.0.over.values_len at c.chunk_in-end.ensures.1 in
     let ready : TallyReady c.args.first.now c.args.status.now c.args.log.now c.args.t made =
-        let o = c.requires.0.over in
+    let o = c.requires.0.over in
     tally_ready o.allowed.some o.formula.vars_fit o.here c.requires.0.some made
     (call_up c.args.entries.now c.args.first.now c.args.status.now c.lesser-chunk.result (meter_of c.args.limits c.args.t)
     c.chunk_in-end.ensures.0) in
     let called_is : CallMade c.args.entries.now c.args.limits c.args.t c.args.first.now c.args.status.now c.args.log.now
     c.lesser-chunk.result c.chunk_in-end.result c.chunk_in-end.new.values =
-        let p = c.requires.0 in
+    let p = c.requires.0 in
     record {
       some_limit = p.over.allowed.some;
       some = p.some;
       room = ready.row.log_room_lem;
       chunk_is = c.lesser-chunk.ensures;
       ended = c.chunk_in-end.ensures.0;
-    } in
-    (
+    } in (
       λ w. on_none _ _ c.args.limits w called_is c.in-NoModel.is
           c.after_none.ensures,
       board_kept,
@@ -127,28 +124,27 @@ returns-in-NoModel c =
 pub returns-in-Stopped : goal.returns-in-Stopped
 returns-in-Stopped c =
     let made : Made =
-        record { chunk = c.lesser-chunk.result; spent = c.chunk_in-end.result.meter.spent } in
+    record { chunk = c.lesser-chunk.result; spent = c.chunk_in-end.result.meter.spent } in
     let board_kept : BoardKept (length c.args.status.now) c.args.entries.now c.args.starts.now c.args.lists.now c.args.holders.now
     c.chunk_in-end.new.marks c.chunk_in-end.new.shown
     c.chunk_in-end.new.keys c.chunk_in-end.new.hot
     c.chunk_in-end.new.trail =
-        rw c.requires.0.over.values_len at c.chunk_in-end.ensures.1 in
+    rw c.requires.0.over.values_len at c.chunk_in-end.ensures.1 in
     let ready : TallyReady c.args.first.now c.args.status.now c.args.log.now c.args.t made =
-        let o = c.requires.0.over in
+    let o = c.requires.0.over in
     tally_ready o.allowed.some o.formula.vars_fit o.here c.requires.0.some made
     (call_up c.args.entries.now c.args.first.now c.args.status.now c.lesser-chunk.result (meter_of c.args.limits c.args.t)
     c.chunk_in-end.ensures.0) in
     let called_is : CallMade c.args.entries.now c.args.limits c.args.t c.args.first.now c.args.status.now c.args.log.now
     c.lesser-chunk.result c.chunk_in-end.result c.chunk_in-end.new.values =
-        let p = c.requires.0 in
+    let p = c.requires.0 in
     record {
       some_limit = p.over.allowed.some;
       some = p.some;
       room = ready.row.log_room_lem;
       chunk_is = c.lesser-chunk.ensures;
       ended = c.chunk_in-end.ensures.0;
-    } in
-    (
+    } in (
       λ w. on_stopped _ _ c.args.limits w called_is c.in-Stopped.is
           c.row_only.ensures,
       board_kept,

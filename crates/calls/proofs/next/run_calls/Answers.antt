@@ -1,9 +1,6 @@
 -- `next::run_calls` meets its contract. Assumes nothing.
 use mathlib.Core.Path.{sym, ◌∙◌}
-use lib.ListN.{length}
-use borrow.Author.Rules.{rules}
-use Rattle.search.specs.Rooms.{BoardKept}
-use Rattle.calls.proofs.LoopLaws.{Kept, kept_start, first_length, going_step, going_less, going_end, going_done, kept_step, kept_end, kept_done}
+use Rattle.calls.proofs.LoopLaws.{kept_start, first_length, going_step, going_less, going_end, going_done, kept_step, kept_end, kept_done}
 use Rattle.calls.proofs.next.run_calls.Goals as goal
 
 pub loop-tally-init : goal.loop-tally-init

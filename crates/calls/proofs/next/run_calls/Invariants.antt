@@ -1,10 +1,8 @@
 -- `next::run_calls` meets its contract. The invariant of its loop: the buffers keep their lengths, the run is where it was, or further, and
 -- calls and ways show its records. The measure is how many candidates remain. Assumes nothing.
-use mathlib.Core.Path.{sym, ◌∙◌}
 use lib.ListN.{length}
-use borrow.Author.Rules.{rules}
 use Rattle.search.specs.Rooms.{BoardKept}
-use Rattle.calls.proofs.LoopLaws.{Kept, kept_start, first_length, going_step, going_less, going_end, going_done, kept_step, kept_end, kept_done}
+use Rattle.calls.proofs.LoopLaws.{Kept}
 use Rattle.calls.proofs.next.run_calls.Given as goal
 
 abbrev pub invariant-loop-tally : goal.invariant-loop-tally

@@ -1,13 +1,11 @@
 -- `clause::has_literal` meets its contract. Assumes nothing.
 use mathlib.Core.Path.{◌≡◌, refl, sym, ap}
-use mathlib.Core.Bool.{false}
-use Prim.Native.Nat.{◌-◌}
 use lib.IntN.{pos}
-use lib.ListN.{get_or, length, take}
+use lib.ListN.{get_or}
 use mir.Syntax.{w32}
 use mir.Val.{of_z}
 use borrow.Author.Rules.{rules}
-use Rattle.rules.specs.Lists.{any, eqz}
+use Rattle.rules.specs.Lists.{eqz}
 use Rattle.rules.proofs.ListLaws.{in_get_d, any_complete, eqz_complete, eqz_other}
 use Rattle.formula.proofs.SignedLaws.{of_z_inj}
 use Rattle.formula.proofs.StateLaws.{none_step, none_done}

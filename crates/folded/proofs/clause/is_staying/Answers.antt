@@ -1,7 +1,6 @@
 -- `clause::is_staying` meets its contract: the literal's variable is not forced, and it does not stand before. Assumes nothing.
 use mathlib.Core.Path.{ap}
 use mathlib.Core.Bool.{not}
-use borrow.Author.Rules.{rules}
 use Rattle.folded.proofs.FoldedLaws.{stays-set, stays_unset}
 use Rattle.folded.proofs.clause.is_staying.Goals as goal
 

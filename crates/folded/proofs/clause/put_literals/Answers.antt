@@ -1,16 +1,14 @@
 -- `clause::put_literals` meets its contract. Assumes nothing.
 use mathlib.Core.Path.{sym, ◌∙◌, ap}
-use Prim.Native.Nat.{◌-◌}
 use lib.IntN.{ℤ, pos}
-use lib.ListN.{length, get_or, take}
+use lib.ListN.{get_or, take}
 use lib.Seq.{length-take-le}
 use native.Mathlib.Omega.{arith}
-use borrow.Author.Rules.{rules}
 use Rattle.rules.proofs.ListLaws.{in_get_d}
 use Rattle.rules.proofs.BitLaws.{to_z-of_z_at}
 use Rattle.buffers.proofs.PutLaws.{room_same, put_same}
-use Rattle.buffers.proofs.PieceLaws.{Piecing, piecing_start, piecing_room, piecing_step, piecing_done}
-use Rattle.folded.specs.Folded.{stays, literal_if, literal_piece}
+use Rattle.buffers.proofs.PieceLaws.{piecing_start, piecing_room, piecing_step, piecing_done}
+use Rattle.folded.specs.Folded.{stays, literal_if}
 use Rattle.folded.proofs.FoldedLaws.{literal_at_lem}
 use Rattle.folded.proofs.clause.put_literals.Goals as goal
 

@@ -1,18 +1,9 @@
 -- `clause::put_literals` meets its contract. The invariant of its loop: those of the first i literals that stay are put, and with the others
 -- behind them all are. The measure is what is left of the clause. Assumes nothing.
-use mathlib.Core.Path.{sym, ◌∙◌, ap}
 use Prim.Native.Nat.{◌-◌}
-use lib.IntN.{ℤ, pos}
-use lib.ListN.{length, get_or, take}
-use lib.Seq.{length-take-le}
-use native.Mathlib.Omega.{arith}
-use borrow.Author.Rules.{rules}
-use Rattle.rules.proofs.ListLaws.{in_get_d}
-use Rattle.rules.proofs.BitLaws.{to_z-of_z_at}
-use Rattle.buffers.proofs.PutLaws.{room_same, put_same}
-use Rattle.buffers.proofs.PieceLaws.{Piecing, piecing_start, piecing_room, piecing_step, piecing_done}
-use Rattle.folded.specs.Folded.{stays, literal_if, literal_piece}
-use Rattle.folded.proofs.FoldedLaws.{literal_at_lem}
+use lib.ListN.{length}
+use Rattle.buffers.proofs.PieceLaws.{Piecing}
+use Rattle.folded.specs.Folded.{literal_piece}
 use Rattle.folded.proofs.clause.put_literals.Given as goal
 
 abbrev pub invariant-loop-i : goal.invariant-loop-i

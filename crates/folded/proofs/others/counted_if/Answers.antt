@@ -1,6 +1,5 @@
 -- `others::counted_if` meets its contract: one more if it is so. Assumes nothing.
 use native.Mathlib.Numerals.{add-one}
-use borrow.Author.Rules.{rules}
 use Rattle.folded.proofs.others.counted_if.Goals as goal
 
 pub returns-then-is : goal.returns-then-is

@@ -1,5 +1,4 @@
 -- `others::is_other` meets its contract: the clause is looked up, and none of its literals is true. Assumes nothing.
-use borrow.Author.Rules.{rules}
 use Rattle.folded.proofs.FoldedLaws.{clause_of_up_to}
 use Rattle.folded.proofs.others.is_other.Goals as goal
 

@@ -1,16 +1,14 @@
 -- `others::put_others` meets its contract. Assumes nothing.
 use mathlib.Core.Path.{sym}
 use mathlib.Core.List.{[]}
-use Prim.Native.Nat.{◌-◌, ◌<◌}
+use Prim.Native.Nat.{◌<◌}
 use native.Mathlib.Omega.{arith}
-use borrow.Author.Rules.{rules}
 use lib.ListN.{length}
 use Rattle.rules.specs.Meaning.{clauses}
 use Rattle.rules.proofs.ClauseLaws.{clauses_le}
 use Rattle.formula.proofs.ClauseLaws.{length_starts}
 use Rattle.buffers.proofs.PutLaws.{room_same, put_same}
-use Rattle.buffers.proofs.PieceLaws.{Piecing, piecing_start, piecing_room, piecing_step, piecing_done}
-use Rattle.folded.specs.Folded.{other_line}
+use Rattle.buffers.proofs.PieceLaws.{piecing_start, piecing_room, piecing_step, piecing_done}
 use Rattle.folded.proofs.FoldedLaws.{other_at}
 use Rattle.folded.proofs.others.put_others.Goals as goal
 
@@ -25,23 +23,23 @@ loop-i-init c =
 pub overflow_cast-i : goal.overflow_cast-i
 overflow_cast-i c =
     let more : c.loop-i.i < length (clauses c.args.entries.now) =
-        omega (arith, c.loop-i-test.true, length_starts c.requires.0) in
+    omega (arith, c.loop-i-test.true, length_starts c.requires.0) in
     let small : c.loop-i.i < 65536 =
-        omega (arith, more, clauses_le c.args.entries.now, c.requires.0.entries_most) in
+    omega (arith, more, clauses_le c.args.entries.now, c.requires.0.entries_most) in
     omega (arith, small)
 
 pub overflow_add-i : goal.overflow_add-i
 overflow_add-i c =
     let more : c.loop-i.i < length (clauses c.args.entries.now) =
-        omega (arith, c.loop-i-test.true, length_starts c.requires.0) in
+    omega (arith, c.loop-i-test.true, length_starts c.requires.0) in
     let small : c.loop-i.i < 65536 =
-        omega (arith, more, clauses_le c.args.entries.now, c.requires.0.entries_most) in
+    omega (arith, more, clauses_le c.args.entries.now, c.requires.0.entries_most) in
     omega (arith, small)
 
 pub put_other-next-requires : goal.put_other-next-requires
 put_other-next-requires c =
     let more : c.loop-i.i < length (clauses c.args.entries.now) =
-        omega (arith, c.loop-i-test.true, length_starts c.requires.0) in
+    omega (arith, c.loop-i-test.true, length_starts c.requires.0) in
     let i = c.loop-i.i in (
       record { formula = c.requires.0; some = omega arith; most = omega (arith, more) },
       room_same (sym (other_at c.args.entries.now i more c.args.values.now)) (piecing_room [] c.loop-i.invariant more),
@@ -50,7 +48,7 @@ put_other-next-requires c =
 pub loop-i-preserved : goal.loop-i-preserved
 loop-i-preserved c =
     let more : c.loop-i.i < length (clauses c.args.entries.now) =
-        omega (arith, c.loop-i-test.true, length_starts c.requires.0) in
+    omega (arith, c.loop-i-test.true, length_starts c.requires.0) in
     piecing_step [] c.loop-i.invariant more
     (put_same (other_at c.args.entries.now c.loop-i.i more c.args.values.now) c.put_other-next.ensures)
 

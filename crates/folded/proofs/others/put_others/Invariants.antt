@@ -1,18 +1,9 @@
 -- `others::put_others` meets its contract. The invariant of its loop: the lines of the first i clauses are put, and with the others behind them
 -- all are. The measure is what is left. Assumes nothing.
-use mathlib.Core.Path.{sym}
-use mathlib.Core.List.{[]}
-use Prim.Native.Nat.{◌-◌, ◌<◌}
-use native.Mathlib.Omega.{arith}
-use borrow.Author.Rules.{rules}
-use lib.ListN.{length}
+use Prim.Native.Nat.{◌-◌}
 use Rattle.rules.specs.Meaning.{clauses}
-use Rattle.rules.proofs.ClauseLaws.{clauses_le}
-use Rattle.formula.proofs.ClauseLaws.{length_starts}
-use Rattle.buffers.proofs.PutLaws.{room_same, put_same}
-use Rattle.buffers.proofs.PieceLaws.{Piecing, piecing_start, piecing_room, piecing_step, piecing_done}
+use Rattle.buffers.proofs.PieceLaws.{Piecing}
 use Rattle.folded.specs.Folded.{other_line}
-use Rattle.folded.proofs.FoldedLaws.{other_at}
 use Rattle.folded.proofs.others.put_others.Given as goal
 
 abbrev pub invariant-loop-i : goal.invariant-loop-i

@@ -1,9 +1,5 @@
 -- `units::put_units` meets its contract. Assumes nothing.
-use Prim.Native.Nat.{◌-◌}
-use borrow.Author.Rules.{rules}
-use lib.ListN.{length}
-use Rattle.buffers.proofs.PieceLaws.{Piecing, piecing_start, piecing_room, piecing_step, piecing_done}
-use Rattle.folded.specs.Folded.{unit_line}
+use Rattle.buffers.proofs.PieceLaws.{piecing_start, piecing_room, piecing_step, piecing_done}
 use Rattle.folded.proofs.units.put_units.Goals as goal
 
 pub loop-i-init : goal.loop-i-init

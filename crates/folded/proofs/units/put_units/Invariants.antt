@@ -1,9 +1,8 @@
 -- `units::put_units` meets its contract. The invariant of its loop: the lines of the first i variables are put, and with the others behind
 -- them all are. The measure is what is left of the values. Assumes nothing.
 use Prim.Native.Nat.{◌-◌}
-use borrow.Author.Rules.{rules}
 use lib.ListN.{length}
-use Rattle.buffers.proofs.PieceLaws.{Piecing, piecing_start, piecing_room, piecing_step, piecing_done}
+use Rattle.buffers.proofs.PieceLaws.{Piecing}
 use Rattle.folded.specs.Folded.{unit_line}
 use Rattle.folded.proofs.units.put_units.Given as goal
 

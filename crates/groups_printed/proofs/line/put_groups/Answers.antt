@@ -3,8 +3,7 @@ use Prim.Native.Nat.{◌+◌, ◌-◌, ◌≤◌}
 use native.Mathlib.Omega.{arith}
 use lib.ListN.{length, get_or, drop, length-drop}
 use lib.Seq.{length-take-le}
-use borrow.Author.Rules.{rules}
-use Rattle.groups_printed.proofs.LineLaws.{Lining, lining_start, lining_part, lining_room, lining_step, lining_done}
+use Rattle.groups_printed.proofs.LineLaws.{lining_start, lining_part, lining_room, lining_step, lining_done}
 use Rattle.groups_printed.proofs.line.put_groups.Goals as goal
 
 pub loop-i-init : goal.loop-i-init
@@ -15,21 +14,21 @@ pub overflow_cast-to : goal.overflow_cast-to
 overflow_cast-to c =
     let part : let l = c.loop-i in
     l.from + get_or c.args.sizes.now l.i 0 ≤ length c.args.status.now =
-        lining_part c.loop-i.invariant c.loop-i-test.true in
+    lining_part c.loop-i.invariant c.loop-i-test.true in
     let p = part in record { fits = omega (arith, p, c.requires.vars_fit) }
 
 pub overflow_add-to : goal.overflow_add-to
 overflow_add-to c =
     let part : let l = c.loop-i in
     l.from + get_or c.args.sizes.now l.i 0 ≤ length c.args.status.now =
-        lining_part c.loop-i.invariant c.loop-i-test.true in
+    lining_part c.loop-i.invariant c.loop-i-test.true in
     let p = part in record { fits = omega (arith, p, c.requires.vars_fit) }
 
 pub put_values-next-requires : goal.put_values-next-requires
 put_values-next-requires c =
     let part : let l = c.loop-i in
     l.from + get_or c.args.sizes.now l.i 0 ≤ length c.args.status.now =
-        lining_part c.loop-i.invariant c.loop-i-test.true in
+    lining_part c.loop-i.invariant c.loop-i-test.true in
     let l = c.loop-i in
     let p = part in
     let n = get_or c.args.sizes.now l.i 0 in (

@@ -1,11 +1,8 @@
 -- `line::put_groups` meets its contract. The invariant of its loop: the lines of i groups are put, and with the others behind them all are.
 -- The measure is how many groups are left. Assumes nothing.
-use Prim.Native.Nat.{◌+◌, ◌-◌, ◌≤◌}
-use native.Mathlib.Omega.{arith}
-use lib.ListN.{length, get_or, drop, length-drop}
-use lib.Seq.{length-take-le}
-use borrow.Author.Rules.{rules}
-use Rattle.groups_printed.proofs.LineLaws.{Lining, lining_start, lining_part, lining_room, lining_step, lining_done}
+use Prim.Native.Nat.{◌-◌}
+use lib.ListN.{length}
+use Rattle.groups_printed.proofs.LineLaws.{Lining}
 use Rattle.groups_printed.proofs.line.put_groups.Given as goal
 
 abbrev pub invariant-loop-i : goal.invariant-loop-i

@@ -1,7 +1,6 @@
 -- `line::put_status` meets its contract: each test picks the word of its status. Assumes nothing.
 use mathlib.Core.Path.{sym, ap}
 use native.Mathlib.Omega.{arith}
-use borrow.Author.Rules.{rules}
 use Rattle.texts.specs.GroupsPrinted.{value_word}
 use Rattle.buffers.proofs.PutLaws.{room_same, put_same}
 use Rattle.groups_printed.proofs.LineLaws.{word_dead}

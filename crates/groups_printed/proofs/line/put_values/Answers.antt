@@ -1,9 +1,5 @@
 -- `line::put_values` meets its contract. Assumes nothing.
-use Prim.Native.Nat.{◌-◌}
-use lib.ListN.{length}
-use borrow.Author.Rules.{rules}
-use Rattle.texts.specs.GroupsPrinted.{value_line}
-use Rattle.buffers.proofs.PieceLaws.{Piecing, piecing_start, piecing_room, piecing_step, piecing_done}
+use Rattle.buffers.proofs.PieceLaws.{piecing_start, piecing_room, piecing_step, piecing_done}
 use Rattle.groups_printed.proofs.line.put_values.Goals as goal
 
 pub loop-i-init : goal.loop-i-init

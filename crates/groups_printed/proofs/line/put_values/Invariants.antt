@@ -2,9 +2,8 @@
 -- The measure is what is left of the statuses. Assumes nothing.
 use Prim.Native.Nat.{◌-◌}
 use lib.ListN.{length}
-use borrow.Author.Rules.{rules}
 use Rattle.texts.specs.GroupsPrinted.{value_line}
-use Rattle.buffers.proofs.PieceLaws.{Piecing, piecing_start, piecing_room, piecing_step, piecing_done}
+use Rattle.buffers.proofs.PieceLaws.{Piecing}
 use Rattle.groups_printed.proofs.line.put_values.Given as goal
 
 abbrev pub invariant-loop-i : goal.invariant-loop-i

@@ -1,5 +1,4 @@
 -- `table::put_run` meets its contract: the table is that of what the run left. Assumes nothing.
-use borrow.Author.Rules.{rules}
 use Rattle.buffers.proofs.PutLaws.{put_same}
 use Rattle.groups_printed.proofs.TableLaws.{run_ready, run_table}
 use Rattle.groups_printed.proofs.table.put_run.Goals as goal

@@ -3,7 +3,6 @@ use mathlib.Core.List.{◌++◌}
 use mathlib.Core.Path.{◌≡◌, sym, ◌∙◌, ap}
 use Prim.Native.Nat.{ℕ}
 use native.Mathlib.Omega.{arith}
-use borrow.Author.Rules.{rules}
 use Rattle.texts.specs.GroupsPrinted.{group_lines, groups_table_of_run}
 use Rattle.texts.specs.Printed.{answer_line}
 use Rattle.buffers.proofs.PutLaws.{room_then, room_same, put_then, put_same}
@@ -26,7 +25,7 @@ pub put_groups-requires : goal.put_groups-requires
 put_groups-requires c =
     let whole : let a = c.args in
     groups_table_of_run a.sizes.now a.report a.status.now ≡ answer_line a.vars a.report ++ group_lines 1 a.sizes.now a.status.now =
-        let a = c.args in
+    let a = c.args in
     table_lines a.sizes.now a.report a.status.now a.report.answer c.requires.ran
     (λ e. omega (arith, c.run_number-number.ensures, c.if-number-eq20.false, e)) ∙
     ap (λ (v : ℕ). answer_line v a.report ++ group_lines 1 a.sizes.now a.status.now) (sym c.requires.vars_are) in
@@ -44,7 +43,7 @@ pub returns : goal.returns
 returns c =
     let whole : let a = c.args in
     groups_table_of_run a.sizes.now a.report a.status.now ≡ answer_line a.vars a.report ++ group_lines 1 a.sizes.now a.status.now =
-        let a = c.args in
+    let a = c.args in
     table_lines a.sizes.now a.report a.status.now a.report.answer c.requires.ran
     (λ e. omega (arith, c.run_number-number.ensures, c.if-number-eq20.false, e)) ∙
     ap (λ (v : ℕ). answer_line v a.report ++ group_lines 1 a.sizes.now a.status.now) (sym c.requires.vars_are) in

@@ -4,7 +4,6 @@ use mathlib.Core.Path.{◌≡◌, sym, ◌∙◌, ap}
 use mathlib.Core.List.{◌++◌}
 use Prim.Native.Nat.{ℕ}
 use native.Mathlib.Omega.{arith}
-use borrow.Author.Rules.{rules}
 use Rattle.rules.specs.Numbers.{run_place}
 use Rattle.texts.specs.Printed.{refused_line, answer_line, status_lines, table_of_run}
 use Rattle.buffers.proofs.PutLaws.{room_then, room_same, put_then, put_same}
@@ -16,7 +15,7 @@ pub put_refused-requires : goal.put_refused-requires
 put_refused-requires c =
     let line : let a = c.args in
     table_of_run a.vars a.report a.status.now a.hints.now ≡ refused_line c.run_number-number.result c.run_place-place.result =
-        let a = c.args in
+    let a = c.args in
     let r = a.report in
     table_refusal r.answer a.vars r a.status.now a.hints.now
     (ap is_refusal (sym c.run_number-number.ensures) ∙ sym c.is_refusal.ensures ∙ c.if-is_refusal.true) ∙
@@ -28,7 +27,7 @@ pub returns-then-is_refusal : goal.returns-then-is_refusal
 returns-then-is_refusal c =
     let line : let a = c.args in
     table_of_run a.vars a.report a.status.now a.hints.now ≡ refused_line c.run_number-number.result c.run_place-place.result =
-        let a = c.args in
+    let a = c.args in
     let r = a.report in
     table_refusal r.answer a.vars r a.status.now a.hints.now
     (ap is_refusal (sym c.run_number-number.ensures) ∙ sym c.is_refusal.ensures ∙ c.if-is_refusal.true) ∙
@@ -39,14 +38,14 @@ returns-then-is_refusal c =
 pub put_answer-next-requires : goal.put_answer-next-requires
 put_answer-next-requires c =
     let ran : Ran c.args.report.answer =
-        ran_of c.args.report.answer
+    ran_of c.args.report.answer
     (ap is_refusal (sym c.run_number-number.ensures) ∙ sym c.is_refusal.ensures ∙ c.if-is_refusal.false) in
     (table_room c.requires ran, c.requires.counted)
 
 pub returns-then-number-eq20 : goal.returns-then-number-eq20
 returns-then-number-eq20 c =
     let ran : Ran c.args.report.answer =
-        ran_of c.args.report.answer
+    ran_of c.args.report.answer
     (ap is_refusal (sym c.run_number-number.ensures) ∙ sym c.is_refusal.ensures ∙ c.if-is_refusal.false) in
     let r = c.args.report in
     put_same
@@ -58,11 +57,11 @@ returns-then-number-eq20 c =
 pub put_lines-requires : goal.put_lines-requires
 put_lines-requires c =
     let ran : Ran c.args.report.answer =
-        ran_of c.args.report.answer
+    ran_of c.args.report.answer
     (ap is_refusal (sym c.run_number-number.ensures) ∙ sym c.is_refusal.ensures ∙ c.if-is_refusal.false) in
     let whole : let a = c.args in
     table_of_run a.vars a.report a.status.now a.hints.now ≡ answer_line a.vars a.report ++ status_lines 1 a.status.now a.hints.now =
-        let r = c.args.report in
+    let r = c.args.report in
     table_lines r.answer c.args.vars r c.args.status.now c.args.hints.now ran
     (λ e. omega (arith, c.run_number-number.ensures, c.if-number-eq20.false, e)) in
     let a = c.args in
@@ -76,11 +75,11 @@ put_lines-requires c =
 pub returns : goal.returns
 returns c =
     let ran : Ran c.args.report.answer =
-        ran_of c.args.report.answer
+    ran_of c.args.report.answer
     (ap is_refusal (sym c.run_number-number.ensures) ∙ sym c.is_refusal.ensures ∙ c.if-is_refusal.false) in
     let whole : let a = c.args in
     table_of_run a.vars a.report a.status.now a.hints.now ≡ answer_line a.vars a.report ++ status_lines 1 a.status.now a.hints.now =
-        let r = c.args.report in
+    let r = c.args.report in
     table_lines r.answer c.args.vars r c.args.status.now c.args.hints.now ran
     (λ e. omega (arith, c.run_number-number.ensures, c.if-number-eq20.false, e)) in
     put_same (sym whole) (put_then c.put_answer-next.ensures c.put_lines.ensures)

@@ -6,7 +6,6 @@ use lib.Seq.{length-take-le}
 use Prim.Native.Nat.{ℕ}
 use Rattle.rules.proofs.ClauseLaws.{clauses_le}
 use Rattle.reason.proofs.AskLaws.{asked_same, ask_over, first_model, first_none, first_stopped}
-use borrow.Author.Rules.{rules}
 use Rattle.reason.proofs.ask.ask.Goals as goal
 
 pub find_starts-count-requires : goal.find_starts-count-requires
@@ -35,12 +34,11 @@ blank_call-end-requires c =
     ask_over c.requires c.find_starts-count.ensures refl
 
 pub second_call-requires : goal.second_call-requires
-second_call-requires c =
-    (
-      asked_same c.requires c.blank_call-end.auto.values refl c.find_starts-count.auto.starts c.clear_bytes.auto.bytes,
-      c.find_starts-count.ensures.count_is,
-      c.clear_bytes.ensures ∙ ap (λ (k : ℕ). replicate k 0) (sym c.clear_bytes.auto.bytes),
-    )
+second_call-requires c = (
+  asked_same c.requires c.blank_call-end.auto.values refl c.find_starts-count.auto.starts c.clear_bytes.auto.bytes,
+  c.find_starts-count.ensures.count_is,
+  c.clear_bytes.ensures ∙ ap (λ (k : ℕ). replicate k 0) (sym c.clear_bytes.auto.bytes),
+)
 
 pub shape_of-marks-in-Model : goal.shape_of-marks-in-Model
 shape_of-marks-in-Model c =

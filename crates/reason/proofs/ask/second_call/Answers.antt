@@ -5,7 +5,6 @@ use Rattle.rules.specs.Meaning.{clauses}
 use Rattle.rules.specs.Why.{first_marks}
 use lib.ListN.{length}
 use Rattle.reason.proofs.AskLaws.{asked_same, second_marks, first_below, second_false, second_none, second_stopped}
-use borrow.Author.Rules.{rules}
 use Rattle.reason.proofs.ask.second_call.Goals as goal
 
 pub mark_first-requires : goal.mark_first-requires
@@ -20,7 +19,7 @@ marked_call-end-requires c =
 pub visit_all-requires : goal.visit_all-requires
 visit_all-requires c =
     let all : c.mark_first.new.marks ≡ first_marks (length (clauses c.args.entries.now)) =
-        let p = c.requires in
+    let p = c.requires in
     second_marks c.args.asking.count p.2 p.0.asks.marks_are c.mark_first.ensures ∙ ap first_marks p.1 in
     let k = c.marked_call-end.auto in (
       asked_same c.requires.0 k.values k.kept k.starts c.mark_first.auto.marks,
@@ -31,7 +30,7 @@ visit_all-requires c =
 pub returns-in-Model : goal.returns-in-Model
 returns-in-Model c =
     let all : c.mark_first.new.marks ≡ first_marks (length (clauses c.args.entries.now)) =
-        let p = c.requires in
+    let p = c.requires in
     second_marks c.args.asking.count p.2 p.0.asks.marks_are c.mark_first.ensures ∙ ap first_marks p.1 in
     second_false c.args.entries.now (length c.args.values.now) c.args.asking.literal.0 c.args.asking.meter all
     c.marked_call-end.ensures
@@ -42,7 +41,7 @@ returns-in-Model c =
 pub returns-in-NoModel : goal.returns-in-NoModel
 returns-in-NoModel c =
     let all : c.mark_first.new.marks ≡ first_marks (length (clauses c.args.entries.now)) =
-        let p = c.requires in
+    let p = c.requires in
     second_marks c.args.asking.count p.2 p.0.asks.marks_are c.mark_first.ensures ∙ ap first_marks p.1 in
     second_none c.args.entries.now (length c.args.values.now) c.args.asking.literal.0 c.args.asking.meter all
     c.marked_call-end.ensures
@@ -52,7 +51,7 @@ returns-in-NoModel c =
 pub returns-in-Stopped : goal.returns-in-Stopped
 returns-in-Stopped c =
     let all : c.mark_first.new.marks ≡ first_marks (length (clauses c.args.entries.now)) =
-        let p = c.requires in
+    let p = c.requires in
     second_marks c.args.asking.count p.2 p.0.asks.marks_are c.mark_first.ensures ∙ ap first_marks p.1 in
     second_stopped c.args.entries.now (length c.args.values.now) c.args.asking.literal.0 c.args.asking.meter all
     c.marked_call-end.ensures c.in-Stopped.is

@@ -3,7 +3,6 @@ use Rattle.search.proofs.WholeLaws.{call_blank}
 use Rattle.reason.proofs.CallLaws.{ends_same}
 use mathlib.Core.Path.{refl}
 use lib.ListN.{length}
-use borrow.Author.Rules.{rules}
 use Rattle.reason.proofs.call.blank_call.Goals as goal
 
 pub whole_call-requires : goal.whole_call-requires

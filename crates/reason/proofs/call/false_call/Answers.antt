@@ -4,7 +4,6 @@ use native.Mathlib.Omega.{arith}
 use lib.Seq.{length-take-le}
 use Rattle.rules.proofs.ClauseLaws.{clauses_le}
 use Rattle.reason.proofs.CallLaws.{ends_same, falsified_is, over_marked, clauses_with_lem}
-use borrow.Author.Rules.{rules}
 use Rattle.reason.proofs.call.false_call.Goals as goal
 
 pub overflow_cast-total : goal.overflow_cast-total

@@ -4,7 +4,6 @@ use mathlib.Core.List.{List, [], ◌∷◌, ◌++◌}
 use lib.Seq.{length-take-le}
 use Rattle.rules.specs.Meaning.{Clause, negated}
 use Rattle.reason.proofs.CallLaws.{ends_same, mark_room, kept_len, over_kept, kept_clauses}
-use borrow.Author.Rules.{rules}
 use Rattle.reason.proofs.call.marked_call.Goals as goal
 
 pub put_marked-n-requires : goal.put_marked-n-requires

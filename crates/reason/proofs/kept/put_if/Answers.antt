@@ -3,7 +3,6 @@ use lib.IntN.{pos}
 use lib.ListN.{get_or}
 use Rattle.rules.proofs.BitLaws.{to_z-of_z_at}
 use Rattle.reason.proofs.KeptLaws.{puts_one}
-use borrow.Author.Rules.{rules}
 use Rattle.reason.proofs.kept.put_if.Goals as goal
 
 pub returns : goal.returns

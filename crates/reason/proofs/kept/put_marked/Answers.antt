@@ -1,13 +1,10 @@
 -- `kept::put_marked` meets its contract. Assumes nothing.
 use mathlib.Core.Path.{ap}
-use Prim.Native.Nat.{◌-◌}
 use lib.Dec.{lit<}
-use lib.ListN.{length}
 use mir.Syntax.{w32}
 use mir.Val.{of_z}
 use Rattle.formula.proofs.SignedLaws.{of_z_inj}
-use Rattle.reason.proofs.KeptLaws.{Puts, puts_start, puts_clause, puts_room, puts_zero, puts_other, puts_done}
-use borrow.Author.Rules.{rules}
+use Rattle.reason.proofs.KeptLaws.{puts_start, puts_clause, puts_room, puts_zero, puts_other, puts_done}
 use Rattle.reason.proofs.kept.put_marked.Goals as goal
 
 pub loop-i-init : goal.loop-i-init

@@ -1,11 +1,10 @@
 -- `marks::mark_first` meets its contract. Assumes nothing.
 use mathlib.Core.Path.{◌≡◌, refl, ◌∙◌, ap}
-use mathlib.Core.List.{List, ◌++◌}
-use Prim.Native.Nat.{ℕ, ◌-◌, ◌≤◌}
+use mathlib.Core.List.{List}
+use Prim.Native.Nat.{ℕ}
 use native.Mathlib.Omega.{arith}
-use lib.ListN.{length, drop, set, length-set, replicate}
+use lib.ListN.{set, length-set}
 use Rattle.reason.proofs.KeptLaws.{ones_more}
-use borrow.Author.Rules.{rules}
 use Rattle.reason.proofs.marks.mark_first.Goals as goal
 
 pub loop-i-init : goal.loop-i-init

@@ -1,11 +1,8 @@
 -- `marks::mark_first` meets its contract. The invariant of its loop: the first i are marked, the others as they were. Assumes nothing.
-use mathlib.Core.Path.{◌≡◌, refl, ◌∙◌, ap}
-use mathlib.Core.List.{List, ◌++◌}
-use Prim.Native.Nat.{ℕ, ◌-◌, ◌≤◌}
-use native.Mathlib.Omega.{arith}
-use lib.ListN.{length, drop, set, length-set, replicate}
-use Rattle.reason.proofs.KeptLaws.{ones_more}
-use borrow.Author.Rules.{rules}
+use mathlib.Core.Path.{◌≡◌}
+use mathlib.Core.List.{◌++◌}
+use Prim.Native.Nat.{◌-◌, ◌≤◌}
+use lib.ListN.{length, drop, replicate}
 use Rattle.reason.proofs.marks.mark_first.Given as goal
 
 abbrev pub invariant-loop-i : goal.invariant-loop-i

@@ -3,7 +3,6 @@ use mathlib.Core.Path.{◌≡◌, sym, ◌∙◌, ap}
 use mathlib.Core.Bool.{Bool}
 use mathlib.Core.List.{List, []}
 use lib.Dec.{ltb}
-use borrow.Author.Rules.{rules}
 use Rattle.rules.specs.declared.Refusal.{Refusal}
 use Rattle.rules.specs.Lists.{Check, first_of}
 use Rattle.rules.specs.Numbers.{max_vars}
@@ -16,11 +15,11 @@ use Rattle.reason.proofs.refuse.refuse.Goals as goal
 pub returns-in-Refused : goal.returns-in-Refused
 returns-in-Refused c =
     let list : List (Check Refusal) =
-        let a = c.args in taking_rules (ltb max_vars a.vars) (why_short a.vars a.marks a.values) a.entries.now a.vars [] in
+    let a = c.args in taking_rules (ltb max_vars a.vars) (why_short a.vars a.marks a.values) a.entries.now a.vars [] in
     let own : List (Check Refusal) =
-        literal_rules c.args.literal.0 c.args.vars in
+    literal_rules c.args.literal.0 c.args.vars in
     let said : c.refuse-checked.result ≡ found (first_of list) =
-        let a = c.args in
+    let a = c.args in
     c.refuse-checked.ensures ∙
     ap (λ (b : Bool). found (first_of (taking_rules (ltb max_vars a.vars) b a.entries.now a.vars []))) c.is_short-short.ensures in
     first_refused list own (sym c.in-Refused.is ∙ said)
@@ -28,11 +27,11 @@ returns-in-Refused c =
 pub returns-in-Accepted : goal.returns-in-Accepted
 returns-in-Accepted c =
     let list : List (Check Refusal) =
-        let a = c.args in taking_rules (ltb max_vars a.vars) (why_short a.vars a.marks a.values) a.entries.now a.vars [] in
+    let a = c.args in taking_rules (ltb max_vars a.vars) (why_short a.vars a.marks a.values) a.entries.now a.vars [] in
     let own : List (Check Refusal) =
-        literal_rules c.args.literal.0 c.args.vars in
+    literal_rules c.args.literal.0 c.args.vars in
     let said : c.refuse-checked.result ≡ found (first_of list) =
-        let a = c.args in
+    let a = c.args in
     c.refuse-checked.ensures ∙
     ap (λ (b : Bool). found (first_of (taking_rules (ltb max_vars a.vars) b a.entries.now a.vars []))) c.is_short-short.ensures in
     c.refuse_literal.ensures ∙ first_accepted list own (sym c.in-Accepted.is ∙ said)

@@ -1,6 +1,5 @@
 -- `refuse::refuse_literal` meets its contract: by the one test. Assumes nothing.
 use mathlib.Core.Path.{sym, ◌∙◌}
-use borrow.Author.Rules.{rules}
 use Rattle.reason.proofs.refuse.refuse_literal.Goals as goal
 
 pub returns-then-is_no_literal : goal.returns-then-is_no_literal

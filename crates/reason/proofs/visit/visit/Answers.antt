@@ -1,9 +1,7 @@
 -- `visit::visit` meets its contract: the mark by what the call without the clause ends with. Assumes nothing.
-use Rattle.search.proofs.CallLaws.{not_model}
 use Rattle.reason.proofs.AskLaws.{asked_same, visited_model, visited_otherwise}
 use mathlib.Core.Path.{refl}
 use lib.ListN.{length-set}
-use borrow.Author.Rules.{rules}
 use Rattle.reason.proofs.visit.visit.Goals as goal
 
 pub marked_call-end-requires : goal.marked_call-end-requires

@@ -3,11 +3,8 @@ use mathlib.Core.Path.{◌≡◌, refl, ◌∙◌, ap}
 use Prim.Native.Nat.{ℕ}
 use native.Mathlib.Omega.{arith}
 use native.Mathlib.Numerals.{add-one}
-use lib.ListN.{length, replicate}
-use Rattle.rules.specs.Why.{visits}
-use Rattle.reason.specs.Asks.{question}
-use Rattle.reason.proofs.AskLaws.{asked_same, Visiting, visiting_start, visiting_at, visiting_step, visiting_stop, visiting_done, not_stopped}
-use borrow.Author.Rules.{rules}
+use lib.ListN.{replicate}
+use Rattle.reason.proofs.AskLaws.{asked_same, visiting_start, visiting_at, visiting_step, visiting_stop, visiting_done}
 use Rattle.reason.proofs.visit.visit_all.Goals as goal
 
 pub loop-n-init : goal.loop-n-init
@@ -51,17 +48,16 @@ returns-in-Stopped c =
     (c.visit-end.auto.marks ∙ c.loop-n.invariant.2 ∙ c.requires.0.asks.marks_are) c.clear_bytes.ensures)
 
 pub loop-n-preserved : goal.loop-n-preserved
-loop-n-preserved c =
-    (
-      c.visit-end.auto.kept ∙ c.loop-n.invariant.0,
-      c.visit-end.auto.starts ∙ c.loop-n.invariant.1,
-      c.visit-end.auto.marks ∙ c.loop-n.invariant.2,
-      c.visit-end.auto.values ∙ c.loop-n.invariant.3,
-      rw (add-one c.loop-n.calls)
-          (visiting_step (visiting_at c.loop-n-test.true c.loop-n.invariant.4)
-          (rw c.loop-n.invariant.3 at c.visit-end.ensures)
-          c.in_default.not-Stopped),
-    )
+loop-n-preserved c = (
+  c.visit-end.auto.kept ∙ c.loop-n.invariant.0,
+  c.visit-end.auto.starts ∙ c.loop-n.invariant.1,
+  c.visit-end.auto.marks ∙ c.loop-n.invariant.2,
+  c.visit-end.auto.values ∙ c.loop-n.invariant.3,
+  rw (add-one c.loop-n.calls)
+      (visiting_step (visiting_at c.loop-n-test.true c.loop-n.invariant.4)
+      (rw c.loop-n.invariant.3 at c.visit-end.ensures)
+      c.in_default.not-Stopped),
+)
 
 pub shape_of-kept : goal.shape_of-kept
 shape_of-kept c =

@@ -1,14 +1,10 @@
 -- `visit::visit_all` meets its contract. The invariant of its loop: the buffers keep their lengths, and the visits that are left end as
 -- all do. The measure is how many are left. Assumes nothing.
-use mathlib.Core.Path.{◌≡◌, refl, ◌∙◌, ap}
-use Prim.Native.Nat.{ℕ}
-use native.Mathlib.Omega.{arith}
-use native.Mathlib.Numerals.{add-one}
-use lib.ListN.{length, replicate}
+use mathlib.Core.Path.{◌≡◌}
+use lib.ListN.{length}
 use Rattle.rules.specs.Why.{visits}
 use Rattle.reason.specs.Asks.{question}
-use Rattle.reason.proofs.AskLaws.{asked_same, Visiting, visiting_start, visiting_at, visiting_step, visiting_stop, visiting_done, not_stopped}
-use borrow.Author.Rules.{rules}
+use Rattle.reason.proofs.AskLaws.{Visiting}
 use Rattle.reason.proofs.visit.visit_all.Given as goal
 
 abbrev pub invariant-loop-n : goal.invariant-loop-n

@@ -1,12 +1,10 @@
 -- `held::first_bad_held` meets its contract. Assumes nothing.
 use mathlib.Core.Path.{◌≡◌, refl, sym, ◌∙◌, ap}
-use Prim.Native.Nat.{◌-◌}
 use lib.IntN.{ℤ, pos}
-use lib.ListN.{length, get_or}
-use borrow.Author.Rules.{rules}
+use lib.ListN.{get_or}
 use Rattle.rules.specs.Held.{is_no_literal}
 use Rattle.rules.proofs.BitLaws.{to_z-of_z_at}
-use Rattle.refusals.proofs.RefuseLaws.{Seek, seek_start, seek_pass, seek_found, seek_done}
+use Rattle.refusals.proofs.RefuseLaws.{seek_start, seek_pass, seek_found, seek_done}
 use Rattle.refusals.proofs.held.first_bad_held.Goals as goal
 
 pub loop-i-init : goal.loop-i-init
@@ -16,9 +14,9 @@ loop-i-init c =
 pub returns-then-is_no_literal : goal.returns-then-is_no_literal
 returns-then-is_no_literal c =
     let here : ℤ =
-        get_or c.args.held.now c.loop-i.i (pos 0) in
+    get_or c.args.held.now c.loop-i.i (pos 0) in
     let told : is_no_literal c.args.vars here ≡ c.is_no_literal.result =
-        sym
+    sym
     (c.is_no_literal.ensures ∙
     ap (is_no_literal c.args.vars)
     (to_z-of_z_at (get_or c.args.held.now c.loop-i.i (pos 0)) (record { sfits = c.is_no_literal-arg-1.given }))) in
@@ -27,9 +25,9 @@ returns-then-is_no_literal c =
 pub loop-i-preserved : goal.loop-i-preserved
 loop-i-preserved c =
     let here : ℤ =
-        get_or c.args.held.now c.loop-i.i (pos 0) in
+    get_or c.args.held.now c.loop-i.i (pos 0) in
     let told : is_no_literal c.args.vars here ≡ c.is_no_literal.result =
-        sym
+    sym
     (c.is_no_literal.ensures ∙
     ap (is_no_literal c.args.vars)
     (to_z-of_z_at (get_or c.args.held.now c.loop-i.i (pos 0)) (record { sfits = c.is_no_literal-arg-1.given }))) in

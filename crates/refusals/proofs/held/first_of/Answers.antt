@@ -1,6 +1,5 @@
 -- `held::first_of` meets its contract: the definition's cases, one by one. Assumes nothing.
 use mathlib.Core.Path.{sym, ap}
-use borrow.Author.Rules.{rules}
 use Rattle.refusals.specs.declared.Checked.{Checked}
 use Rattle.refusals.specs.Refuse.{or_rest}
 use Rattle.refusals.proofs.held.first_of.Goals as goal

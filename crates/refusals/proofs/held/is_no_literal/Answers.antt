@@ -1,6 +1,5 @@
 -- `held::is_no_literal` meets its contract: it looks at the variable alone. Assumes nothing.
 use mathlib.Core.Path.{sym, ◌∙◌}
-use borrow.Author.Rules.{rules}
 use borrow.Author.Tests.{eq-eqb, ne_eqb}
 use Rattle.rules.specs.Meaning.{var_of}
 use Rattle.refusals.proofs.held.is_no_literal.Goals as goal

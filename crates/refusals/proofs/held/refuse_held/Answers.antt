@@ -1,5 +1,4 @@
 -- `held::refuse_held` meets its contract: each way out by the law of its rule. Assumes nothing.
-use borrow.Author.Rules.{rules}
 use Rattle.refusals.proofs.FoundLaws.{many_held_found, bad_held_found, held_found_lem}
 use Rattle.refusals.proofs.held.refuse_held.Goals as goal
 

@@ -1,12 +1,9 @@
 -- `chunk::fill_start` meets its contract. Assumes nothing.
-use mathlib.Core.Path.{◌≡◌, refl, sym, ◌∙◌}
-use Prim.Native.Nat.{◌-◌}
+use mathlib.Core.Path.{refl, sym, ◌∙◌}
 use native.Mathlib.Omega.{arith}
-use borrow.Author.Rules.{rules}
-use lib.ListN.{length, length-set}
-use Rattle.rules.specs.Run.{forced_values}
+use lib.ListN.{length-set}
 use Rattle.rules.proofs.StatusLaws.{length-forced_values}
-use Rattle.buffers.proofs.FillLaws.{Filled, filled_start, filled_step, filled_done}
+use Rattle.buffers.proofs.FillLaws.{filled_start, filled_step, filled_done}
 use Rattle.steps.proofs.ChunkLaws.{forced_values_read}
 use Rattle.steps.proofs.chunk.fill_start.Goals as goal
 
@@ -24,8 +21,7 @@ loop-i-smaller c =
 
 pub loop-i-preserved : goal.loop-i-preserved
 loop-i-preserved c =
-    let l = c.loop-i in
-    (
+    let l = c.loop-i in (
       length-set l.values l.i _ ∙ l.invariant.0,
       filled_step 0 _ l.invariant.1 c.loop-i-test.true (forced_values_read c.args.status.now l.i ∙ sym c.forced_value.ensures),
     )

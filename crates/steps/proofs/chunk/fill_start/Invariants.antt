@@ -1,13 +1,9 @@
 -- `chunk::fill_start` meets its contract. The invariant of its loop: the front is filled. Assumes nothing.
-use mathlib.Core.Path.{◌≡◌, refl, sym, ◌∙◌}
+use mathlib.Core.Path.{◌≡◌}
 use Prim.Native.Nat.{◌-◌}
-use native.Mathlib.Omega.{arith}
-use borrow.Author.Rules.{rules}
-use lib.ListN.{length, length-set}
+use lib.ListN.{length}
 use Rattle.rules.specs.Run.{forced_values}
-use Rattle.rules.proofs.StatusLaws.{length-forced_values}
-use Rattle.buffers.proofs.FillLaws.{Filled, filled_start, filled_step, filled_done}
-use Rattle.steps.proofs.ChunkLaws.{forced_values_read}
+use Rattle.buffers.proofs.FillLaws.{Filled}
 use Rattle.steps.proofs.chunk.fill_start.Given as goal
 
 abbrev pub invariant-loop-i : goal.invariant-loop-i

@@ -1,9 +1,6 @@
 -- `chunk::force_first` meets its contract. Assumes nothing.
-use Prim.Native.Nat.{◌-◌}
 use native.Mathlib.Omega.{arith}
-use borrow.Author.Rules.{rules}
-use lib.ListN.{length}
-use Rattle.steps.proofs.ChunkLaws.{Forcing, forcing_start, forcing_step, forcing_done}
+use Rattle.steps.proofs.ChunkLaws.{forcing_start, forcing_step, forcing_done}
 use Rattle.steps.proofs.chunk.force_first.Goals as goal
 
 pub loop-i-init : goal.loop-i-init

@@ -1,9 +1,7 @@
 -- `chunk::force_first` meets its contract. The invariant of its loop: what is left is to force behind i. Assumes nothing.
 use Prim.Native.Nat.{◌-◌}
-use native.Mathlib.Omega.{arith}
-use borrow.Author.Rules.{rules}
 use lib.ListN.{length}
-use Rattle.steps.proofs.ChunkLaws.{Forcing, forcing_start, forcing_step, forcing_done}
+use Rattle.steps.proofs.ChunkLaws.{Forcing}
 use Rattle.steps.proofs.chunk.force_first.Given as goal
 
 abbrev pub invariant-loop-i : goal.invariant-loop-i

@@ -1,5 +1,4 @@
 -- `chunk::force_if` meets its contract: by the law for each of its three ways. Assumes nothing.
-use borrow.Author.Rules.{rules}
 use Rattle.steps.proofs.ChunkLaws.{forces_open, forces_none, forces_closed}
 use Rattle.steps.proofs.chunk.force_if.Goals as goal
 

@@ -1,6 +1,5 @@
 -- `chunk::forced_value` meets its contract: by ranges. Assumes nothing.
 use mathlib.Core.Path.{sym}
-use borrow.Author.Rules.{rules}
 use Rattle.steps.proofs.ChunkLaws.{forced_value_low, forced_value_high}
 use Rattle.steps.proofs.chunk.forced_value.Goals as goal
 

@@ -1,11 +1,8 @@
 -- `compare::compare` meets its contract. Assumes nothing.
-use Prim.Native.Nat.{◌-◌}
 use native.Mathlib.Omega.{arith}
-use borrow.Author.Rules.{rules}
-use lib.ListN.{length}
-use Rattle.rules.specs.Run.{is_open, differs}
+use Rattle.rules.specs.Run.{is_open}
 use Rattle.rules.proofs.ListLaws.{count_le}
-use Rattle.steps.proofs.FilterLaws.{Filtering, filtering_start, filtering_step, filtering_done, differs_read}
+use Rattle.steps.proofs.FilterLaws.{filtering_start, filtering_step, filtering_done, differs_read}
 use Rattle.steps.proofs.compare.compare.Goals as goal
 
 pub loop-i-init : goal.loop-i-init
@@ -30,7 +27,7 @@ loop-i-preserved c =
 pub overflow_add-dropped : goal.overflow_add-dropped
 overflow_add-dropped c =
     let loop_again =
-        filtering_step _ c.loop-i.invariant c.loop-i-test.true
+    filtering_step _ c.loop-i.invariant c.loop-i-test.true
     (differs_read c.args.first.now c.args.model.now c.loop-i.i (omega (arith, c.loop-i.invariant.len))
     (omega (arith, c.loop-i.invariant.len)))
     c.drop_if-dropped.ensures in

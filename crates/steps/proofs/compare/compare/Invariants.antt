@@ -1,12 +1,9 @@
 -- `compare::compare` meets its contract. The invariant of its loop: what is left is to free behind i, and what was dropped is counted.
 -- The measure is what is left of the length. Assumes nothing.
 use Prim.Native.Nat.{◌-◌}
-use native.Mathlib.Omega.{arith}
-use borrow.Author.Rules.{rules}
 use lib.ListN.{length}
-use Rattle.rules.specs.Run.{is_open, differs}
-use Rattle.rules.proofs.ListLaws.{count_le}
-use Rattle.steps.proofs.FilterLaws.{Filtering, filtering_start, filtering_step, filtering_done, differs_read}
+use Rattle.rules.specs.Run.{differs}
+use Rattle.steps.proofs.FilterLaws.{Filtering}
 use Rattle.steps.proofs.compare.compare.Given as goal
 
 abbrev pub invariant-loop-i : goal.invariant-loop-i

@@ -1,5 +1,4 @@
 -- `compare::drop_if` meets its contract: by the law for each of its three ways. Assumes nothing.
-use borrow.Author.Rules.{rules}
 use Rattle.steps.proofs.FilterLaws.{drops_open, drops_closed, drops_not}
 use Rattle.steps.proofs.compare.drop_if.Goals as goal
 

@@ -3,7 +3,6 @@ use mathlib.Core.Path.{◌∙◌, ap}
 use native.Mathlib.Omega.{arith}
 use mir.Syntax.{w32}
 use mir.Facts.{to_z_pos}
-use borrow.Author.Rules.{rules}
 use Rattle.rules.specs.Meaning.{negated}
 use Rattle.steps.proofs.ConstraintLaws.{false_low, false_high}
 use Rattle.steps.proofs.constraint.false_literal.Goals as goal

@@ -1,9 +1,6 @@
 -- `constraint::put_constraint` meets its contract. Assumes nothing.
-use Prim.Native.Nat.{◌-◌}
 use native.Mathlib.Omega.{arith}
-use borrow.Author.Rules.{rules}
-use lib.ListN.{length}
-use Rattle.steps.proofs.ConstraintLaws.{Putting, putting_start, putting_step, putting_done}
+use Rattle.steps.proofs.ConstraintLaws.{putting_start, putting_step, putting_done}
 use Rattle.steps.proofs.constraint.put_constraint.Goals as goal
 
 pub loop-i-init : goal.loop-i-init

@@ -1,10 +1,8 @@
 -- `constraint::put_constraint` meets its contract. The invariant of its loop: what is put, and what is still to put, are the
 -- constraint. The measure is what is left of the length. Assumes nothing.
 use Prim.Native.Nat.{◌-◌}
-use native.Mathlib.Omega.{arith}
-use borrow.Author.Rules.{rules}
 use lib.ListN.{length}
-use Rattle.steps.proofs.ConstraintLaws.{Putting, putting_start, putting_step, putting_done}
+use Rattle.steps.proofs.ConstraintLaws.{Putting}
 use Rattle.steps.proofs.constraint.put_constraint.Given as goal
 
 abbrev pub invariant-loop-i : goal.invariant-loop-i

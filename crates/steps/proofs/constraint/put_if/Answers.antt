@@ -4,7 +4,6 @@ use Prim.Native.Nat.{ℕ, pred, ◌<◌, ◌^◌}
 use native.Mathlib.Omega.{arith}
 use native.Mathlib.Numerals.{add-one}
 use lib.ListN.{get_or}
-use borrow.Author.Rules.{rules}
 use Rattle.rules.specs.Meaning.{var_of, negated}
 use Rattle.rules.specs.Run.{literal_at}
 use Rattle.rules.proofs.BitLaws.{to_z-of_z_at}

@@ -1,13 +1,10 @@
 -- `flip::flip` meets its contract. Assumes nothing.
 use mathlib.Core.Path.{ap}
-use Prim.Native.Nat.{◌-◌}
 use native.Mathlib.Omega.{arith}
-use borrow.Author.Rules.{rules}
 use lib.ListN.{length}
-use Rattle.rules.specs.Meaning.{clauses}
 use Rattle.rules.specs.Run.{is_open}
 use Rattle.rules.proofs.ListLaws.{count_le}
-use Rattle.steps.proofs.FlipLaws.{Flipping, flipping_start, flipping_step, flipping_done}
+use Rattle.steps.proofs.FlipLaws.{flipping_start, flipping_step, flipping_done}
 use Rattle.steps.proofs.flip.flip.Goals as goal
 
 pub loop-i-init : goal.loop-i-init
@@ -32,14 +29,14 @@ loop-i-preserved c =
 pub overflow_add-dropped : goal.overflow_add-dropped
 overflow_add-dropped c =
     let loop_again =
-        flipping_step c.loop-i.invariant
+    flipping_step c.loop-i.invariant
     c.loop-i-test.true c.flip_at-dropped.ensures in
     omega (arith, loop_again.filtering.counted, count_le is_open c.args.status.now, c.requires.formula.vars_fit, c.requires.len)
 
 pub loop-i-smaller : goal.loop-i-smaller
 loop-i-smaller c =
     let loop_again =
-        flipping_step c.loop-i.invariant
+    flipping_step c.loop-i.invariant
     c.loop-i-test.true c.flip_at-dropped.ensures in
     omega (arith, loop_again.filtering.len, c.loop-i.invariant.filtering.len)
 

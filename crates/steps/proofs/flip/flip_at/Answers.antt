@@ -1,5 +1,4 @@
 -- `flip::flip_at` meets its contract: by the law for each of its two ways. Assumes nothing.
-use borrow.Author.Rules.{rules}
 use Rattle.steps.proofs.FlipLaws.{flips_open, flips_closed}
 use Rattle.steps.proofs.flip.flip_at.Goals as goal
 

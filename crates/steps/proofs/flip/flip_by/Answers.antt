@@ -1,6 +1,5 @@
 -- `flip::flip_by` meets its contract: what was found says it. Assumes nothing.
 use mathlib.Core.Path.{sym, ◌∙◌}
-use borrow.Author.Rules.{rules}
 use Rattle.rules.specs.Meaning.{clauses, first_false}
 use Rattle.steps.proofs.FlipLaws.{by_nothing, by_clause}
 use Rattle.steps.proofs.flip.flip_by.Goals as goal

@@ -1,6 +1,5 @@
 -- `flip::flip_test` meets its contract: the byte is stored back. Assumes nothing.
 use native.Mathlib.Omega.{arith}
-use borrow.Author.Rules.{rules}
 use lib.ListN.{length-set}
 use Rattle.steps.proofs.FlipLaws.{flip_test_is}
 use Rattle.steps.proofs.flip.flip_test.Goals as goal

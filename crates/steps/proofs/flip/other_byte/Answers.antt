@@ -1,6 +1,5 @@
 -- `flip::other_byte` meets its contract. Assumes nothing.
 use mathlib.Core.Path.{sym}
-use borrow.Author.Rules.{rules}
 use Rattle.steps.proofs.FlipLaws.{other_byte_high}
 use Rattle.steps.proofs.flip.other_byte.Goals as goal
 

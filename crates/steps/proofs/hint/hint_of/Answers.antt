@@ -1,5 +1,4 @@
 -- `hint::hint_of` meets its contract: by the law for each of its two ways. Assumes nothing.
-use borrow.Author.Rules.{rules}
 use Rattle.steps.proofs.HintLaws.{hinted_unset, hinted_set}
 use Rattle.steps.proofs.hint.hint_of.Goals as goal
 

@@ -1,11 +1,8 @@
 -- `hint::put_hints` meets its contract. Assumes nothing.
-use mathlib.Core.Path.{◌≡◌, refl, ◌∙◌, ap}
-use Prim.Native.Nat.{◌-◌}
+use mathlib.Core.Path.{refl, ◌∙◌, ap}
 use native.Mathlib.Omega.{arith}
-use borrow.Author.Rules.{rules}
 use lib.ListN.{length, length-set}
-use Rattle.rules.specs.Meaning.{clauses}
-use Rattle.steps.proofs.HintLaws.{Hinting, hinting_start, hinting_step, hinting_done}
+use Rattle.steps.proofs.HintLaws.{hinting_start, hinting_step, hinting_done}
 use Rattle.steps.proofs.hint.put_hints.Goals as goal
 
 pub loop-i-init : goal.loop-i-init

@@ -1,12 +1,10 @@
 -- `hint::put_hints` meets its contract. The invariant of its loop: the hints in front of i are put, and the model is as it was. The
 -- measure is what is left. Assumes nothing.
-use mathlib.Core.Path.{◌≡◌, refl, ◌∙◌, ap}
+use mathlib.Core.Path.{◌≡◌}
 use Prim.Native.Nat.{◌-◌}
-use native.Mathlib.Omega.{arith}
-use borrow.Author.Rules.{rules}
-use lib.ListN.{length, length-set}
+use lib.ListN.{length}
 use Rattle.rules.specs.Meaning.{clauses}
-use Rattle.steps.proofs.HintLaws.{Hinting, hinting_start, hinting_step, hinting_done}
+use Rattle.steps.proofs.HintLaws.{Hinting}
 use Rattle.steps.proofs.hint.put_hints.Given as goal
 
 abbrev pub invariant-loop-i : goal.invariant-loop-i

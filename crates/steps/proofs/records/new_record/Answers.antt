@@ -1,5 +1,4 @@
 -- `records::new_record` meets its contract: its way is that of `way_of`. Assumes nothing.
-use borrow.Author.Rules.{rules}
 use Rattle.steps.proofs.records.new_record.Goals as goal
 
 pub returns : goal.returns

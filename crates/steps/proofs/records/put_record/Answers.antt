@@ -1,5 +1,4 @@
 -- `records::put_record` meets its contract: by the law for each of its three ways. Assumes nothing.
-use borrow.Author.Rules.{rules}
 use Rattle.steps.proofs.RecordLaws.{puts_new, puts_open, puts_settled}
 use Rattle.steps.proofs.records.put_record.Goals as goal
 

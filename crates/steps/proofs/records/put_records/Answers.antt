@@ -1,10 +1,7 @@
 -- `records::put_records` meets its contract. Assumes nothing.
 use mathlib.Core.Path.{sym, ◌∙◌}
-use Prim.Native.Nat.{◌-◌}
 use native.Mathlib.Omega.{arith}
-use borrow.Author.Rules.{rules}
-use lib.ListN.{length}
-use Rattle.steps.proofs.RecordLaws.{Recording, recording_start, recording_step, recording_done}
+use Rattle.steps.proofs.RecordLaws.{recording_start, recording_step, recording_done}
 use Rattle.steps.proofs.records.put_records.Goals as goal
 
 pub loop-i-init : goal.loop-i-init

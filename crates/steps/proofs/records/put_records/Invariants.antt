@@ -1,11 +1,8 @@
 -- `records::put_records` meets its contract. The invariant of its loop: the first i elements of both buffers are new, the others as they
 -- were. The measure is what is left of the length. Assumes nothing.
-use mathlib.Core.Path.{sym, ◌∙◌}
 use Prim.Native.Nat.{◌-◌}
-use native.Mathlib.Omega.{arith}
-use borrow.Author.Rules.{rules}
 use lib.ListN.{length}
-use Rattle.steps.proofs.RecordLaws.{Recording, recording_start, recording_step, recording_done}
+use Rattle.steps.proofs.RecordLaws.{Recording}
 use Rattle.steps.proofs.records.put_records.Given as goal
 
 abbrev pub invariant-loop-i : goal.invariant-loop-i

@@ -1,7 +1,6 @@
 -- `row::put_row` meets its contract: six stores, one behind the other. Assumes nothing.
 use native.Mathlib.Omega.{arith}
 use native.Mathlib.Numerals.{add-one, add-two, add-three, add-four, add_five}
-use borrow.Author.Rules.{rules}
 use lib.ListN.{length-set}
 use Rattle.steps.proofs.row.put_row.Goals as goal
 

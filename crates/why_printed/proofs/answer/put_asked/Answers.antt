@@ -1,7 +1,6 @@
 -- `answer::put_asked` meets its contract: the answer is that of what the question left. Assumes nothing.
 use mathlib.Core.Path.{◌≡◌, sym}
 use native.Mathlib.Omega.{arith}
-use borrow.Author.Rules.{rules}
 use Rattle.rules.specs.Meaning.{clauses}
 use Rattle.texts.specs.WhyPrinted.{why_text_of_report, why_text_of_list}
 use Rattle.buffers.proofs.PutLaws.{room_same, put_same}
@@ -13,7 +12,7 @@ put_answer-requires c =
     let text : let a = c.args in
     why_text_of_report c.why-report.result (clauses a.entries.now) c.why-report.new.marks c.why-report.new.values
     ≡ why_text_of_list a.vars a.entries.now a.literal.0 =
-        let a = c.args in asked_text a.vars a.entries.now a.literal.0 c.requires.1 c.why-report.ensures in
+    let a = c.args in asked_text a.vars a.entries.now a.literal.0 c.requires.1 c.why-report.ensures in
     let p = c.requires in
     record {
       entries_fit = p.0.entries_fit;
@@ -28,7 +27,7 @@ returns c =
     let text : let a = c.args in
     why_text_of_report c.why-report.result (clauses a.entries.now) c.why-report.new.marks c.why-report.new.values
     ≡ why_text_of_list a.vars a.entries.now a.literal.0 =
-        let a = c.args in asked_text a.vars a.entries.now a.literal.0 c.requires.1 c.why-report.ensures in
+    let a = c.args in asked_text a.vars a.entries.now a.literal.0 c.requires.1 c.why-report.ensures in
     record {
       put = put_same text c.put_answer.ensures;
       marks_are = c.why-report.ensures.marks_are;

@@ -1,5 +1,4 @@
 -- `answer::put_false` meets its contract: the first line, then the model. Assumes nothing.
-use borrow.Author.Rules.{rules}
 use Rattle.texts.specs.ModelLine.{model_line}
 use Rattle.texts.specs.WhyPrinted.{why_line}
 use Rattle.buffers.proofs.PutLaws.{room_first, room_then, put_then}

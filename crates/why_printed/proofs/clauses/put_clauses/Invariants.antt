@@ -1,18 +1,9 @@
 -- `clauses::put_clauses` meets its contract. The invariant of its loop: the lines of the first i clauses are put, and with the others
 -- behind them all are. The measure is what is left. Assumes nothing.
-use mathlib.Core.Path.{◌≡◌, sym, ◌∙◌, ap}
-use mathlib.Core.List.{[]}
-use Prim.Native.Nat.{◌+◌, ◌-◌, ◌<◌}
-use native.Mathlib.Omega.{arith}
-use borrow.Author.Rules.{rules}
-use lib.ListN.{length}
+use Prim.Native.Nat.{◌-◌}
 use Rattle.rules.specs.Meaning.{clauses}
 use Rattle.texts.specs.WhyPrinted.{kept_line}
-use Rattle.rules.proofs.ClauseLaws.{clauses_le}
-use Rattle.formula.proofs.StartsLaws.{length-starts_of}
-use Rattle.buffers.proofs.PutLaws.{room_same, put_same}
-use Rattle.buffers.proofs.PieceLaws.{Piecing, piecing_start, piecing_room, piecing_step, piecing_done}
-use Rattle.why_printed.proofs.ReasonLaws.{kept_at}
+use Rattle.buffers.proofs.PieceLaws.{Piecing}
 use Rattle.why_printed.proofs.clauses.put_clauses.Given as goal
 
 abbrev pub invariant-loop-i : goal.invariant-loop-i

@@ -3,7 +3,6 @@ use mathlib.Core.Path.{◌≡◌, sym, ◌∙◌, ap}
 use mathlib.Core.List.{List, ◌++◌}
 use Prim.Native.Nat.{ℕ}
 use native.Mathlib.Omega.{arith}
-use borrow.Author.Rules.{rules}
 use lib.ListN.{length, take}
 use lib.Seq.{length-take-le}
 use Rattle.rules.specs.Lists.{is_set, count}
@@ -38,18 +37,18 @@ pub put_first-next-requires : goal.put_first-next-requires
 put_first-next-requires c =
     let kept_is : c.count_set-kept.result
     ≡ length (marked c.args.marks.now (clauses c.args.entries.now)) =
-        let a = c.args in
+    let a = c.args in
     c.count_set-kept.ensures ∙ ap (λ (n : ℕ). count is_set (take n a.marks.now)) c.find_starts-count.ensures.count_is ∙
     sym (length_marked a.marks.now (clauses a.entries.now)) in
     let first : List ℕ =
-        why_line c.args.report c.count_set-kept.result in
+    why_line c.args.report c.count_set-kept.result in
     let lines : List ℕ =
-        kept_lines c.args.marks.now (clauses c.args.entries.now) in
+    kept_lines c.args.marks.now (clauses c.args.entries.now) in
     let whole : let a = c.args in
     first ++ lines ≡ reason_text a.report a.entries.now a.marks.now =
-        ap (λ (k : ℕ). why_line c.args.report k ++ lines) kept_is in
+    ap (λ (k : ℕ). why_line c.args.report k ++ lines) kept_is in
     let room : Room 0 (first ++ lines) c.args.out.now =
-        room_same (sym whole) c.requires.0.room in
+    room_same (sym whole) c.requires.0.room in
     room_first first lines room
 
 pub slice_bounds-put_clauses-end-2 : goal.slice_bounds-put_clauses-end-2
@@ -60,19 +59,18 @@ pub put_clauses-requires : goal.put_clauses-requires
 put_clauses-requires c =
     let kept_is : c.count_set-kept.result
     ≡ length (marked c.args.marks.now (clauses c.args.entries.now)) =
-        let a = c.args in
+    let a = c.args in
     c.count_set-kept.ensures ∙ ap (λ (n : ℕ). count is_set (take n a.marks.now)) c.find_starts-count.ensures.count_is ∙
     sym (length_marked a.marks.now (clauses a.entries.now)) in
     let first : List ℕ =
-        why_line c.args.report c.count_set-kept.result in
+    why_line c.args.report c.count_set-kept.result in
     let lines : List ℕ =
-        kept_lines c.args.marks.now (clauses c.args.entries.now) in
+    kept_lines c.args.marks.now (clauses c.args.entries.now) in
     let whole : let a = c.args in
     first ++ lines ≡ reason_text a.report a.entries.now a.marks.now =
-        ap (λ (k : ℕ). why_line c.args.report k ++ lines) kept_is in
+    ap (λ (k : ℕ). why_line c.args.report k ++ lines) kept_is in
     let room : Room 0 (first ++ lines) c.args.out.now =
-        room_same (sym whole) c.requires.0.room in
-    (
+    room_same (sym whole) c.requires.0.room in (
       record {
         entries_fit = omega (arith, c.requires.0.entries_fit);
         starts_are = found_front c.find_starts-count.ensures;
@@ -85,16 +83,16 @@ pub returns : goal.returns
 returns c =
     let kept_is : c.count_set-kept.result
     ≡ length (marked c.args.marks.now (clauses c.args.entries.now)) =
-        let a = c.args in
+    let a = c.args in
     c.count_set-kept.ensures ∙ ap (λ (n : ℕ). count is_set (take n a.marks.now)) c.find_starts-count.ensures.count_is ∙
     sym (length_marked a.marks.now (clauses a.entries.now)) in
     let first : List ℕ =
-        why_line c.args.report c.count_set-kept.result in
+    why_line c.args.report c.count_set-kept.result in
     let lines : List ℕ =
-        kept_lines c.args.marks.now (clauses c.args.entries.now) in
+    kept_lines c.args.marks.now (clauses c.args.entries.now) in
     let whole : let a = c.args in
     first ++ lines ≡ reason_text a.report a.entries.now a.marks.now =
-        ap (λ (k : ℕ). why_line c.args.report k ++ lines) kept_is in
+    ap (λ (k : ℕ). why_line c.args.report k ++ lines) kept_is in
     record {
       put = put_same whole (put_then c.put_first-next.ensures c.put_clauses.ensures);
       starts_are = c.find_starts-count.ensures.starts_are;

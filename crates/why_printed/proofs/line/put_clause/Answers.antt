@@ -2,7 +2,6 @@
 use mathlib.Core.Path.{sym}
 use mathlib.Core.List.{List, [], ◌∷◌, ◌++◌}
 use Prim.Native.Nat.{ℕ}
-use borrow.Author.Rules.{rules}
 use Rattle.rules.specs.Lists.{pieces}
 use Rattle.texts.specs.Plain.{decimal}
 use Rattle.texts.specs.WhyPrinted.{clause_word, spaced_literal}
@@ -14,59 +13,59 @@ use Rattle.why_printed.proofs.line.put_clause.Goals as goal
 pub put_field-behind_number-requires : goal.put_field-behind_number-requires
 put_field-behind_number-requires c =
     let number_field : List ℕ =
-        clause_word ++ decimal c.args.n.0 in
+    clause_word ++ decimal c.args.n.0 in
     let literals : List ℕ =
-        pieces spaced_literal 1 c.args.clause.now in
+    pieces spaced_literal 1 c.args.clause.now in
     let behind_colon : List ℕ =
-        literals ++ (10 ∷ []) in
+    literals ++ (10 ∷ []) in
     let room : Room c.args.at (number_field ++ ((58 ∷ []) ++ behind_colon)) c.args.out.now =
-        room_same (sym (clause_line_lem c.args.n.0 c.args.clause.now)) c.requires in
+    room_same (sym (clause_line_lem c.args.n.0 c.args.clause.now)) c.requires in
     room_first number_field ((58 ∷ []) ++ behind_colon) room
 
 pub put_byte-behind_colon-requires : goal.put_byte-behind_colon-requires
 put_byte-behind_colon-requires c =
     let number_field : List ℕ =
-        clause_word ++ decimal c.args.n.0 in
+    clause_word ++ decimal c.args.n.0 in
     let literals : List ℕ =
-        pieces spaced_literal 1 c.args.clause.now in
+    pieces spaced_literal 1 c.args.clause.now in
     let behind_colon : List ℕ =
-        literals ++ (10 ∷ []) in
+    literals ++ (10 ∷ []) in
     let room : Room c.args.at (number_field ++ ((58 ∷ []) ++ behind_colon)) c.args.out.now =
-        room_same (sym (clause_line_lem c.args.n.0 c.args.clause.now)) c.requires in
+    room_same (sym (clause_line_lem c.args.n.0 c.args.clause.now)) c.requires in
     let room_number : Room c.put_field-behind_number.result ((58 ∷ []) ++ behind_colon) c.put_field-behind_number.new.out =
-        room_then number_field ((58 ∷ []) ++ behind_colon) room c.put_field-behind_number.ensures in
+    room_then number_field ((58 ∷ []) ++ behind_colon) room c.put_field-behind_number.ensures in
     room_first (58 ∷ []) behind_colon room_number
 
 pub put_literals-behind_literals-requires : goal.put_literals-behind_literals-requires
 put_literals-behind_literals-requires c =
     let number_field : List ℕ =
-        clause_word ++ decimal c.args.n.0 in
+    clause_word ++ decimal c.args.n.0 in
     let literals : List ℕ =
-        pieces spaced_literal 1 c.args.clause.now in
+    pieces spaced_literal 1 c.args.clause.now in
     let behind_colon : List ℕ =
-        literals ++ (10 ∷ []) in
+    literals ++ (10 ∷ []) in
     let room : Room c.args.at (number_field ++ ((58 ∷ []) ++ behind_colon)) c.args.out.now =
-        room_same (sym (clause_line_lem c.args.n.0 c.args.clause.now)) c.requires in
+    room_same (sym (clause_line_lem c.args.n.0 c.args.clause.now)) c.requires in
     let room_number : Room c.put_field-behind_number.result ((58 ∷ []) ++ behind_colon) c.put_field-behind_number.new.out =
-        room_then number_field ((58 ∷ []) ++ behind_colon) room c.put_field-behind_number.ensures in
+    room_then number_field ((58 ∷ []) ++ behind_colon) room c.put_field-behind_number.ensures in
     let room_colon : Room c.put_byte-behind_colon.result behind_colon c.put_byte-behind_colon.new.out =
-        room_then (58 ∷ []) behind_colon room_number c.put_byte-behind_colon.ensures in
+    room_then (58 ∷ []) behind_colon room_number c.put_byte-behind_colon.ensures in
     room_first literals (10 ∷ []) room_colon
 
 pub put_byte-requires : goal.put_byte-requires
 put_byte-requires c =
     let number_field : List ℕ =
-        clause_word ++ decimal c.args.n.0 in
+    clause_word ++ decimal c.args.n.0 in
     let literals : List ℕ =
-        pieces spaced_literal 1 c.args.clause.now in
+    pieces spaced_literal 1 c.args.clause.now in
     let behind_colon : List ℕ =
-        literals ++ (10 ∷ []) in
+    literals ++ (10 ∷ []) in
     let room : Room c.args.at (number_field ++ ((58 ∷ []) ++ behind_colon)) c.args.out.now =
-        room_same (sym (clause_line_lem c.args.n.0 c.args.clause.now)) c.requires in
+    room_same (sym (clause_line_lem c.args.n.0 c.args.clause.now)) c.requires in
     let room_number : Room c.put_field-behind_number.result ((58 ∷ []) ++ behind_colon) c.put_field-behind_number.new.out =
-        room_then number_field ((58 ∷ []) ++ behind_colon) room c.put_field-behind_number.ensures in
+    room_then number_field ((58 ∷ []) ++ behind_colon) room c.put_field-behind_number.ensures in
     let room_colon : Room c.put_byte-behind_colon.result behind_colon c.put_byte-behind_colon.new.out =
-        room_then (58 ∷ []) behind_colon room_number c.put_byte-behind_colon.ensures in
+    room_then (58 ∷ []) behind_colon room_number c.put_byte-behind_colon.ensures in
     room_then literals (10 ∷ []) room_colon c.put_literals-behind_literals.ensures
 
 pub returns : goal.returns

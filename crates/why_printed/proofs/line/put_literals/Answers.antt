@@ -1,13 +1,11 @@
 -- `line::put_literals` meets its contract. Assumes nothing.
 use mathlib.Core.Path.{ap}
-use Prim.Native.Nat.{◌-◌}
 use lib.IntN.{pos}
-use borrow.Author.Rules.{rules}
-use lib.ListN.{length, get_or}
+use lib.ListN.{get_or}
 use Rattle.texts.specs.WhyPrinted.{spaced_literal}
 use Rattle.rules.proofs.BitLaws.{to_z-of_z_at}
 use Rattle.buffers.proofs.PutLaws.{put_same}
-use Rattle.buffers.proofs.PieceLaws.{Piecing, piecing_start, piecing_room, piecing_step, piecing_done}
+use Rattle.buffers.proofs.PieceLaws.{piecing_start, piecing_room, piecing_step, piecing_done}
 use Rattle.why_printed.proofs.line.put_literals.Goals as goal
 
 pub loop-i-init : goal.loop-i-init

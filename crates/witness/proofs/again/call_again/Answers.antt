@@ -1,6 +1,5 @@
 -- `again::call_again` meets its contract: the starts are the list's, and the call is that of a chunk. Assumes nothing.
 use native.Mathlib.Omega.{arith}
-use borrow.Author.Rules.{rules}
 use Rattle.backbone.proofs.ListingLaws.{found_formula, front_len}
 use Rattle.witness.proofs.again.call_again.Goals as goal
 

@@ -1,9 +1,7 @@
 -- `again::keep_before` meets its contract. Assumes nothing.
-use Prim.Native.Nat.{◌-◌}
 use native.Mathlib.Omega.{arith}
-use borrow.Author.Rules.{rules}
-use lib.ListN.{length, length-set}
-use Rattle.witness.proofs.AgainLaws.{Keeping, keeping_start, keeping_step, keeping_done}
+use lib.ListN.{length-set}
+use Rattle.witness.proofs.AgainLaws.{keeping_start, keeping_step, keeping_done}
 use Rattle.witness.proofs.again.keep_before.Goals as goal
 
 pub loop-i-init : goal.loop-i-init

@@ -1,10 +1,8 @@
 -- `again::keep_before` meets its contract. The invariant of its loop: the first i statuses are those before the call, the others as they
 -- were. Assumes nothing.
 use Prim.Native.Nat.{◌-◌}
-use native.Mathlib.Omega.{arith}
-use borrow.Author.Rules.{rules}
-use lib.ListN.{length, length-set}
-use Rattle.witness.proofs.AgainLaws.{Keeping, keeping_start, keeping_step, keeping_done}
+use lib.ListN.{length}
+use Rattle.witness.proofs.AgainLaws.{Keeping}
 use Rattle.witness.proofs.again.keep_before.Given as goal
 
 abbrev pub invariant-loop-i : goal.invariant-loop-i

@@ -1,8 +1,7 @@
 -- `again::tries_of` meets its contract. Assumes nothing.
 use mathlib.Core.Path.{◌≡◌, refl, ◌∙◌, ap}
-use Prim.Native.Nat.{◌+◌, ◌-◌, ◌≤◌}
+use Prim.Native.Nat.{◌+◌}
 use native.Mathlib.Omega.{arith}
-use borrow.Author.Rules.{rules}
 use Rattle.witness.specs.Again.{tries_in}
 use Rattle.witness.proofs.AgainLaws.{tries_more, tries_in_mono}
 use Rattle.witness.proofs.again.tries_of.Goals as goal

@@ -1,10 +1,7 @@
 -- `again::tries_of` meets its contract. The invariant of its loop: the tries of the first i rows. Assumes nothing.
-use mathlib.Core.Path.{◌≡◌, refl, ◌∙◌, ap}
-use Prim.Native.Nat.{◌+◌, ◌-◌, ◌≤◌}
-use native.Mathlib.Omega.{arith}
-use borrow.Author.Rules.{rules}
+use mathlib.Core.Path.{◌≡◌}
+use Prim.Native.Nat.{◌-◌, ◌≤◌}
 use Rattle.witness.specs.Again.{tries_in}
-use Rattle.witness.proofs.AgainLaws.{tries_more, tries_in_mono}
 use Rattle.witness.proofs.again.tries_of.Given as goal
 
 abbrev pub invariant-loop-i : goal.invariant-loop-i

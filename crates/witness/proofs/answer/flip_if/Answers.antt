@@ -1,6 +1,5 @@
 -- `answer::flip_if` meets its contract: by the way. Assumes nothing.
 use mathlib.Core.Path.{sym}
-use borrow.Author.Rules.{rules}
 use Rattle.witness.proofs.AnswerLaws.{way_witness_flip, way_witness_other}
 use Rattle.witness.proofs.answer.flip_if.Goals as goal
 

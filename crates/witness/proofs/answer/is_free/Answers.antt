@@ -2,7 +2,6 @@
 use mathlib.Core.Path.{sym}
 use Prim.Native.Nat.{◌-◌}
 use lib.ListN.{get_or}
-use borrow.Author.Rules.{rules}
 use borrow.Author.Tests.{eq-eqb, ne_eqb}
 use Rattle.witness.proofs.AnswerLaws.{free_by_at, free_by_out}
 use Rattle.witness.proofs.answer.is_free.Goals as goal

@@ -1,7 +1,6 @@
 -- `answer::put_models` meets its contract: the first model, and the witness by the call's model and the way. Assumes nothing.
 use mathlib.Core.Path.{sym, ◌∙◌}
 use native.Mathlib.Omega.{arith}
-use borrow.Author.Rules.{rules}
 use Rattle.witness.proofs.AgainLaws.{calls_len, first_len}
 use Rattle.witness.proofs.AnswerLaws.{ways_length, models_put}
 use Rattle.witness.proofs.answer.put_models.Goals as goal

@@ -1,6 +1,5 @@
 -- `answer::put_witness` meets its contract: what is flipped is put. Assumes nothing.
 use mathlib.Core.Path.{◌∙◌, ap}
-use borrow.Author.Rules.{rules}
 use Rattle.rules.specs.Witness.{literals_from}
 use Rattle.witness.proofs.answer.put_witness.Goals as goal
 

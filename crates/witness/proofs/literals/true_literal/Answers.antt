@@ -3,7 +3,6 @@ use mathlib.Core.Path.{◌∙◌, ap}
 use native.Mathlib.Omega.{arith}
 use mir.Syntax.{w32}
 use mir.Facts.{to_z_pos}
-use borrow.Author.Rules.{rules}
 use Rattle.rules.specs.Meaning.{negated}
 use Rattle.witness.proofs.AnswerLaws.{true_low, true_high}
 use Rattle.witness.proofs.literals.true_literal.Goals as goal

@@ -2,7 +2,6 @@
 use mathlib.Core.Path.{◌≡◌, refl, sym, ◌∙◌, ap}
 use mathlib.Core.List.{List}
 use Prim.Native.Nat.{ℕ}
-use borrow.Author.Rules.{rules}
 use Rattle.rules.specs.declared.RunAnswer.{RunAnswer}
 use Rattle.rules.specs.Numbers.{refusal_number}
 use Rattle.texts.specs.Printed.{refused_line}
@@ -13,9 +12,9 @@ use Rattle.witness_printed.proofs.answer.put_answer.Goals as goal
 pub put_pair-requires : goal.put_pair-requires
 put_pair-requires c =
     let by : RunAnswer → List ℕ =
-        λ a. text_by a c.args.first.now c.args.witness.now in
+    λ a. text_by a c.args.first.now c.args.witness.now in
     let pair_ready : (a : RunAnswer) → c.args.report.answer ≡ a → by a ≡ lines_of c.args.first.now c.args.witness.now → PairReady c.args.first.now c.args.witness.now c.args.bits.now c.args.out.now =
-        λ a e f. let p = c.requires in
+    λ a e f. let p = c.requires in
     record {
       first_len = p.first_len;
       witness_len = p.witness_len;
@@ -27,9 +26,9 @@ put_pair-requires c =
 pub put_pair-requires-in-NoModel : goal.put_pair-requires-in-NoModel
 put_pair-requires-in-NoModel c =
     let by : RunAnswer → List ℕ =
-        λ a. text_by a c.args.first.now c.args.witness.now in
+    λ a. text_by a c.args.first.now c.args.witness.now in
     let pair_ready : (a : RunAnswer) → c.args.report.answer ≡ a → by a ≡ lines_of c.args.first.now c.args.witness.now → PairReady c.args.first.now c.args.witness.now c.args.bits.now c.args.out.now =
-        λ a e f. let p = c.requires in
+    λ a e f. let p = c.requires in
     record {
       first_len = p.first_len;
       witness_len = p.witness_len;
@@ -41,9 +40,9 @@ put_pair-requires-in-NoModel c =
 pub put_pair-requires-in-Stopped : goal.put_pair-requires-in-Stopped
 put_pair-requires-in-Stopped c =
     let by : RunAnswer → List ℕ =
-        λ a. text_by a c.args.first.now c.args.witness.now in
+    λ a. text_by a c.args.first.now c.args.witness.now in
     let pair_ready : (a : RunAnswer) → c.args.report.answer ≡ a → by a ≡ lines_of c.args.first.now c.args.witness.now → PairReady c.args.first.now c.args.witness.now c.args.bits.now c.args.out.now =
-        λ a e f. let p = c.requires in
+    λ a e f. let p = c.requires in
     record {
       first_len = p.first_len;
       witness_len = p.witness_len;
@@ -55,9 +54,9 @@ put_pair-requires-in-Stopped c =
 pub put_refused-requires : goal.put_refused-requires
 put_refused-requires c =
     let by : RunAnswer → List ℕ =
-        λ a. text_by a c.args.first.now c.args.witness.now in
+    λ a. text_by a c.args.first.now c.args.witness.now in
     let line : refused_line c.refusal_number-number.result c.refusal_place-place.result ≡ by c.args.report.answer =
-        ap (λ (n : ℕ). refused_line n c.refusal_place-place.result) c.refusal_number-number.ensures ∙
+    ap (λ (n : ℕ). refused_line n c.refusal_place-place.result) c.refusal_number-number.ensures ∙
     ap (λ (n : ℕ). refused_line (refusal_number c.in-Refused.refusal) n) c.refusal_place-place.ensures ∙
     sym (ap by c.in-Refused.is) in
     room_same (sym line) c.requires.room
@@ -65,9 +64,9 @@ put_refused-requires c =
 pub returns-in-Settled : goal.returns-in-Settled
 returns-in-Settled c =
     let by : RunAnswer → List ℕ =
-        λ a. text_by a c.args.first.now c.args.witness.now in
+    λ a. text_by a c.args.first.now c.args.witness.now in
     let bits_by_lem : RunAnswer → List ℕ =
-        λ a. bits_by a c.args.witness.now c.args.bits.now in
+    λ a. bits_by a c.args.witness.now c.args.bits.now in
     let is = c.in-Settled.is in
     record {
       put = put_same (sym (ap by is)) c.put_pair.ensures.put;
@@ -77,9 +76,9 @@ returns-in-Settled c =
 pub returns-in-NoModel : goal.returns-in-NoModel
 returns-in-NoModel c =
     let by : RunAnswer → List ℕ =
-        λ a. text_by a c.args.first.now c.args.witness.now in
+    λ a. text_by a c.args.first.now c.args.witness.now in
     let bits_by_lem : RunAnswer → List ℕ =
-        λ a. bits_by a c.args.witness.now c.args.bits.now in
+    λ a. bits_by a c.args.witness.now c.args.bits.now in
     let is = c.in-NoModel.is in
     record {
       put = put_same (sym (ap by is)) c.put_pair-in-NoModel.ensures.put;
@@ -89,9 +88,9 @@ returns-in-NoModel c =
 pub returns-in-Stopped : goal.returns-in-Stopped
 returns-in-Stopped c =
     let by : RunAnswer → List ℕ =
-        λ a. text_by a c.args.first.now c.args.witness.now in
+    λ a. text_by a c.args.first.now c.args.witness.now in
     let bits_by_lem : RunAnswer → List ℕ =
-        λ a. bits_by a c.args.witness.now c.args.bits.now in
+    λ a. bits_by a c.args.witness.now c.args.bits.now in
     let is = c.in-Stopped.is in
     record {
       put = put_same (sym (ap by is)) c.put_pair-in-Stopped.ensures.put;
@@ -101,11 +100,11 @@ returns-in-Stopped c =
 pub returns-in-Refused : goal.returns-in-Refused
 returns-in-Refused c =
     let by : RunAnswer → List ℕ =
-        λ a. text_by a c.args.first.now c.args.witness.now in
+    λ a. text_by a c.args.first.now c.args.witness.now in
     let bits_by_lem : RunAnswer → List ℕ =
-        λ a. bits_by a c.args.witness.now c.args.bits.now in
+    λ a. bits_by a c.args.witness.now c.args.bits.now in
     let line : refused_line c.refusal_number-number.result c.refusal_place-place.result ≡ by c.args.report.answer =
-        ap (λ (n : ℕ). refused_line n c.refusal_place-place.result) c.refusal_number-number.ensures ∙
+    ap (λ (n : ℕ). refused_line n c.refusal_place-place.result) c.refusal_number-number.ensures ∙
     ap (λ (n : ℕ). refused_line (refusal_number c.in-Refused.refusal) n) c.refusal_place-place.ensures ∙
     sym (ap by c.in-Refused.is) in
     record {

@@ -1,7 +1,6 @@
 -- `answer::put_asked` meets its contract: the answer is that of what the question left. Assumes nothing.
 use mathlib.Core.Path.{◌≡◌, sym}
 use native.Mathlib.Omega.{arith}
-use borrow.Author.Rules.{rules}
 use Rattle.texts.specs.WitnessPrinted.{witness_asked, witness_text_of_asked}
 use Rattle.buffers.proofs.PutLaws.{room_same, put_same}
 use Rattle.witness_printed.specs.Pair.{answer_text}
@@ -13,7 +12,7 @@ put_answer-requires c =
     let text : let a = c.args in
     answer_text c.witness-report.result c.witness-report.new.first c.witness-report.new.witness
     ≡ witness_text_of_asked (witness_asked a.vars a.entries.now a.variable) =
-        asked_text c.args.vars c.args.entries.now c.args.variable c.requires.1 c.requires.0.listed c.witness-report.ensures in
+    asked_text c.args.vars c.args.entries.now c.args.variable c.requires.1 c.requires.0.listed c.witness-report.ensures in
     let p = c.requires in
     record {
       first_len = omega (arith, p.1.first_len, p.1.bits_len, c.witness-report.auto.first);
@@ -27,7 +26,7 @@ returns c =
     let text : let a = c.args in
     answer_text c.witness-report.result c.witness-report.new.first c.witness-report.new.witness
     ≡ witness_text_of_asked (witness_asked a.vars a.entries.now a.variable) =
-        asked_text c.args.vars c.args.entries.now c.args.variable c.requires.1 c.requires.0.listed c.witness-report.ensures in
+    asked_text c.args.vars c.args.entries.now c.args.variable c.requires.1 c.requires.0.listed c.witness-report.ensures in
     let left = c.witness-report.ensures in
     record {
       put = put_same text c.put_answer.ensures.put;

@@ -1,6 +1,5 @@
 -- `pair::bit_of` meets its contract: the sign of a literal. Assumes nothing.
 use mathlib.Core.Path.{◌∙◌}
-use borrow.Author.Rules.{rules}
 use Rattle.formula.specs.Literals.{is_positive}
 use Rattle.formula.proofs.SignedLaws.{of_literal}
 use Rattle.witness_printed.proofs.AnswerLaws.{bit_high, bit_low}

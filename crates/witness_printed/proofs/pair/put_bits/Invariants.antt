@@ -1,15 +1,10 @@
 -- `pair::put_bits` meets its contract. The invariant of its loop: the front is filled. Assumes nothing.
-use mathlib.Core.Path.{◌≡◌, refl, sym, ◌∙◌, ap}
+use mathlib.Core.Path.{◌≡◌}
 use mathlib.Core.List.{map}
 use Prim.Native.Nat.{◌-◌}
-use native.Mathlib.Omega.{arith}
-use borrow.Author.Rules.{rules}
-use lib.IntN.{pos}
-use lib.ListN.{length, get_or, length-set}
+use lib.ListN.{length}
 use Rattle.texts.specs.WitnessPrinted.{literal_bit}
-use Rattle.rules.proofs.BitLaws.{to_z-of_z_at}
-use Rattle.buffers.proofs.FillLaws.{Filled, filled_start, filled_step, filled_done}
-use Rattle.witness_printed.proofs.AnswerLaws.{length_bits, bit_at}
+use Rattle.buffers.proofs.FillLaws.{Filled}
 use Rattle.witness_printed.proofs.pair.put_bits.Given as goal
 
 abbrev pub invariant-loop-i : goal.invariant-loop-i

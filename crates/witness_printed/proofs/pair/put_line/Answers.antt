@@ -1,7 +1,6 @@
 -- `pair::put_line` meets its contract: the bits, then their line. Assumes nothing.
 use mathlib.Core.Path.{sym, ap}
 use native.Mathlib.Omega.{arith}
-use borrow.Author.Rules.{rules}
 use lib.ListN.{length}
 use Rattle.texts.specs.ModelLine.{model_line}
 use Rattle.buffers.proofs.PutLaws.{room_same, put_same}

@@ -1,7 +1,6 @@
 -- `pair::put_pair` meets its contract: one line behind the other. Assumes nothing.
 use mathlib.Core.Path.{◌≡◌, sym, ◌∙◌, ap}
 use native.Mathlib.Omega.{arith}
-use borrow.Author.Rules.{rules}
 use lib.ListN.{length}
 use Rattle.buffers.proofs.PutLaws.{room_first, room_then, put_then}
 use Rattle.witness_printed.specs.Pair.{line_of}
@@ -19,7 +18,7 @@ put_line-next-requires c =
 pub put_line-requires : goal.put_line-requires
 put_line-requires c =
     let bits_len : length c.put_line-next.new.bits ≡ length c.args.bits.now =
-        ap length c.put_line-next.ensures.bits_are ∙ length_bits c.args.first.now ∙ c.requires.first_len in
+    ap length c.put_line-next.ensures.bits_are ∙ length_bits c.args.first.now ∙ c.requires.first_len in
     record {
       len = c.requires.witness_len ∙ sym bits_len;
       vars_fit = omega (arith, bits_len, c.requires.vars_fit);
