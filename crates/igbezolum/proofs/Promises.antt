@@ -432,4 +432,5 @@ pub settled_same : {es : List ℤ} {vars : ℕ} {held : List ℤ} (budget limit 
     → RunsIn (given es vars held budget limit lent) n after → RunsIn (given es vars held budget' limit' lent') n' after'
     → n.answer ≡ 0 → n'.answer ≡ 0 → take vars after.status ≡ take vars after'.status
 settled_same budget limit budget' limit' w v e f =
-    run.settled_same budget limit budget' limit' (runs_back w) (runs_back v) (settled_accepted w e) (settled_accepted v f) (answer_of_lem w 0 e) (answer_of_lem v 0 f)
+    run.settled_same budget limit budget' limit' (runs_back w) (runs_back v)
+    (settled_accepted w e) (settled_accepted v f) (answer_of_lem w 0 e) (answer_of_lem v 0 f)

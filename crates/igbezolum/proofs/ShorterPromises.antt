@@ -95,7 +95,10 @@ module _ {g : ShorterGiven} {n : IgbShorter} {after : List ℕ} (w : ShortensIn 
 
   -- 0, 20 or 21 is answered exactly if no rule refuses
   pub shorter_answered : Ended n.answer ↔ Accepted (shorter_run g)
-  shorter_answered = (go (shorter_refusal g) refl, λ h. rw (number_is h) (answered_number (run (shorter_task g)).answer (rw (← run_answer_lem h) (run_answered h))))
+  shorter_answered = (
+    go (shorter_refusal g) refl,
+    λ h. rw (number_is h) (answered_number (run (shorter_task g)).answer (rw (← run_answer_lem h) (run_answered h))),
+  )
     where
       number_is : Accepted (shorter_run g) → n.answer ≡ run_number (run (shorter_task g)).answer
       number_is h = ap (λ (m : IgbShorter). m.answer) (run_numbers h)
