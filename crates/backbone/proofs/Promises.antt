@@ -37,7 +37,8 @@ use Rattle.rules.specs.Run.{Task, Row, Ended, status_at, is_forced_to, first_cal
 use Rattle.rules.specs.Trace.{Ends, first_none, first_stopped, settled, next_stopped}
 use Rattle.rules.specs.Hints.{hints_of, HeldBy}
 use Rattle.rules.specs.Held.{with_held, list_with}
-use Rattle.rules.specs.Answer.{Given, Buffers, given, log_length, refusal_of, task_of, report_if, report_of, report_of_run, log_of_rows, is_free, is_forced, Runs}
+use Rattle.rules.specs.Answer.{Given, Buffers, given, log_length, refusal_of, task_of, report_if, report_of, report_of_run, log_of_rows, is_free}
+use Rattle.rules.specs.Answer.{is_forced, Runs}
 use Rattle.rules.specs.Answer.{plain_refusal, plain_task, status_if, status_after, hints_if, hints_after, log_if, log_after}
 use Rattle.rules.specs.RunRefusals.{Accepted, RunRefuses}
 use Rattle.rules.specs.Log.{LogOf}

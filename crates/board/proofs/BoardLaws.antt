@@ -257,7 +257,8 @@ module _ {F : List Clause} {lists holders marks : List ℕ} {vs : Values} {keys 
   other_is : other_code (get_or trail (trail_len trail) 0) ≡ code_of (negated last)
   other_is = ap other_code (sym code_is) ∙ other_code-code_of last s.literal.some
 
-  module _ {keys1 hot1 : List ℕ} (d : Changed 0 65535 (holders_at lists holders marks (length keys - 1) (get_or trail (trail_len trail) 0)) keys keys1 hot1) where
+  module _ {keys1 hot1 : List ℕ} (d : Changed 0 65535 (holders_at lists holders marks (length keys - 1) (get_or trail (trail_len trail) 0)) keys keys1
+      hot1) where
     keys_down : keys1 ≡ map midway_down F
     keys_down = keys_after _ _ back_first s.shows.index s.literal s.shows.keys_are (rw (sym code_is) at d)
 

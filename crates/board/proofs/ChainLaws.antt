@@ -66,7 +66,8 @@ linked_zero w = record { room = w.room; below = w.below; chains = w.chains }
 
 module _ {n c : ℕ} {cl : Clause} {G : List Clause} {m : ℕ} {heads nexts owners : List ℕ} (k : ℤ) (u : LitUpTo n k)
     (w : Linked n c (cl ∷ G) m heads nexts owners) where
-  same_chain : (l : ℤ) → LitUpTo n l → eqz l k ≡ false → Chain owners nexts (get_or heads (code_of l) 0) (keep_if (eqz l k || holds l cl) c (holding l (suc c) G))
+  same_chain : (l : ℤ) → LitUpTo n l → eqz l k ≡ false → Chain owners nexts (get_or heads (code_of l) 0)
+      (keep_if (eqz l k || holds l cl) c (holding l (suc c) G))
   same_chain l v e = rw e (w.chains l v)
 
   linked_twice : holds k cl ≡ true → Linked n c ((k ∷ cl) ∷ G) m heads nexts owners
@@ -113,7 +114,8 @@ module _ {n c : ℕ} {cl : Clause} {G : List Clause} {m : ℕ} {heads nexts owne
       go l v true e =
           rw (eqz_sound l k e, get_or-set_same heads (code_of k) (m + 1) 0 in_heads, eqz_refl k)
           (cell m (add-one m) (sym (get_or-set_same owners m c 0 or)) (rw (get_or-set_same nexts m (get_or heads (code_of k) 0) 0 nr) (w.below (code_of k)))
-          (kept (sym (get_or-set_same nexts m (get_or heads (code_of k) 0) 0 nr)) (chain_frame m c (get_or heads (code_of k) 0) (w.below (code_of k)) (not_held h))))
+          (kept (sym (get_or-set_same nexts m (get_or heads (code_of k) 0) 0 nr))
+              (chain_frame m c (get_or heads (code_of k) 0) (w.below (code_of k)) (not_held h))))
       go l v false e =
           let d : code_of l ≢ code_of k = λ t. never (eqz_complete l k (code_of_same l k v.some u.some t)) e in
           rw (get_or-set_other heads (code_of k) (code_of l) (m + 1) 0 d)

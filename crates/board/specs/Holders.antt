@@ -1,6 +1,7 @@
 -- Who holds a literal: for each literal the indices of the formula's clauses that hold it, ascending, in one list cut by starts; a mark
 -- for each literal of the constraint, which stands behind the last of them; and a change of the keys of such clauses. Assumes nothing.
-use Rattle.std.specs.Prelude.{◌≡◌, Bool, true, false, List, [], ◌∷◌, ◌++◌, ℕ, suc, pred, ◌+◌, ◌-◌, ◌*◌, ◌/◌, ◌%◌, ◌≤◌, ◌<◌, ◌^◌, eqb, ℤ, pos, negsuc, get_or, set, length, take, drop}
+use Rattle.std.specs.Prelude.{◌≡◌, Bool, true, false, List, [], ◌∷◌, ◌++◌, ℕ, suc, pred, ◌+◌, ◌-◌, ◌*◌, ◌/◌, ◌%◌, ◌≤◌, ◌<◌, ◌^◌, eqb, ℤ, pos, negsuc}
+use Rattle.std.specs.Prelude.{get_or, set, length, take, drop}
 use Rattle.rules.specs.Lists.{keep_if}
 use Rattle.rules.specs.Meaning.{Clause, LitUpTo}
 use Rattle.board.specs.Blocks.{HotBlocks}

@@ -60,7 +60,8 @@ pub record IsDue (vars : ℕ) (F : List Clause) (p : Part) (due : Due) : Type 0 
 
 -- in each part where this is due: the answer, or the number that leads on
 pub data Taken (text : List ℕ) (at : ℕ) (due : Due) : Number → Type 0 where
-  stops : {a : ClaimsAnswer} → ((vars : ℕ) (F : List Clause) (p : Part) → IsDue vars F p due → judge_at vars F text p at ≡ a) → Taken text at due (Number.Stop a)
+  stops : {a : ClaimsAnswer} → ((vars : ℕ) (F : List Clause) (p : Part) → IsDue vars F p due → judge_at vars F text p at ≡ a)
+      → Taken text at due (Number.Stop a)
   takes : {from to : ℕ} {e : Entry}
       → ((vars : ℕ) (F : List Clause) (p : Part) → IsDue vars F p due → judge_at vars F text p at ≡ judge_from vars F text (next vars p from (value_of e)) to)
       → is_faulty due (value_of e) ≡ false → SignFits e → Taken text at due (Number.Is from to e)

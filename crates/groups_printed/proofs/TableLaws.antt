@@ -27,7 +27,8 @@ use Rattle.texts.specs.Printed.{refused_line, answer_line, table_budget, table_c
 use Rattle.texts.specs.Groups.{max_groups, vars_in, expanded_entries}
 use Rattle.texts.specs.GroupsReading.{GroupsGiven, groups_given, ReadsGroups}
 use Rattle.texts.specs.GroupsRefusals.{GroupsRefuses}
-use Rattle.texts.specs.GroupsPrinted.{group_lines, groups_table_by, groups_table_of_run, groups_run, groups_table_of_list, groups_table_of, max_groups_table, PrintsGroups}
+use Rattle.texts.specs.GroupsPrinted.{group_lines, groups_table_by, groups_table_of_run, groups_run, groups_table_of_list, groups_table_of}
+use Rattle.texts.specs.GroupsPrinted.{max_groups_table, PrintsGroups}
 use Rattle.texts.proofs.TableLaws.{run_bounded}
 use Rattle.texts.proofs.GroupsRead.{accepted_of, Roomy, FileOf, groups_accepts, groups_accepted, groups_refuses}
 use Rattle.texts.proofs.GroupsText.{groups_run_accepted, groups_table_refused, groups_table_list, length-groups_table_of}

@@ -87,7 +87,8 @@ same_literal (negsuc a) (negsuc b) h g i t = ap negsuc i
 flipped_away : (m : Values) (i : ℕ) (j : ℤ) → is_true m j ≡ true → is_true (flipped m i) j ≡ false → index_of j ≡ i
 flipped_away m i j t f = go (set_cases m i (other_byte (value_at m i)) (index_of j))
   where
-    go : ((index_of j ≡ i) × (value_at (flipped m i) (index_of j) ≡ other_byte (value_at m i))) ⊎ (value_at (flipped m i) (index_of j) ≡ value_at m (index_of j))
+    go : ((index_of j ≡ i) × (value_at (flipped m i) (index_of j) ≡ other_byte (value_at m i))) ⊎
+        (value_at (flipped m i) (index_of j) ≡ value_at m (index_of j))
         → index_of j ≡ i
     go (inl h) = h.0
     go (inr h) = absurd (never (eq-eqb _ _ (h ∙ eqb-true _ _ t)) f)

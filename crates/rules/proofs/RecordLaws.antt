@@ -201,7 +201,8 @@ module _ (call : ℕ) where
           arith,
           one_compare (p j) (q j) s r (h r (Memᴰ.head refl)),
           count_compare (suc j) rs (λ x i. h x (Memᴰ.tail i)),
-          count_if_add (settled_by call Way.Compare (settled_if s (freed_if (q j) (freed_if (p j) s)) (new (freed_if (q j) (freed_if (p j) s)) (way_if (p j))) r))
+          count_if_add (settled_by call Way.Compare (settled_if s (freed_if (q j) (freed_if (p j) s))
+              (new (freed_if (q j) (freed_if (p j) s)) (way_if (p j))) r))
               (count (settled_by call Way.Compare) (records_from (suc j) call (λ i. way_if (p i)) (freed_from (suc j) q (freed_from (suc j) p ss)) rs)),
           count_if_add (is_open (freed_if (p j) s)) (opens (freed_from (suc j) p ss)),
           count_if_add (is_open s) (opens ss),
@@ -267,7 +268,8 @@ module _ (call : ℕ) where
           opens (force_first (b ∷ m) (s ∷ statuses_of rs) n)
           ≡ opens (s ∷ statuses_of rs)
       go zero z zero ih = rw (z, old, records_same (suc j) (λ i. Way.Chunk) rs) (omega (arith, none_yet))
-      go zero z (suc n) ih = forced (forced_by b) (chunked (force_first m (statuses_of rs) n)) (opens (force_first m (statuses_of rs) n)) z (forced_by_le b) (ih n)
+      go zero z (suc n) ih = forced (forced_by b) (chunked (force_first m (statuses_of rs) n)) (opens (force_first m (statuses_of rs) n)) z
+          (forced_by_le b) (ih n)
       go (suc s) z n ih = rw (z, old) (ih n)
 
 -- ---- the three kinds of records
@@ -449,7 +451,8 @@ module _ (P : ℕ → Type 0) {ss : List ℕ} {rs : List Record} {rows : List Ro
   pub not_yet : (r : Record) → In r rs → r.call ≢ suc (length rows)
   not_yet r h e = absurd (omega (arith, shape_call (in_shape w.shape r h)))
 
-  pub records_more : Counted (records_from 0 (suc (length rows)) way ts rs) row → RecordsAt ts (records_from 0 (suc (length rows)) way ts rs) (rows ++ (row ∷ []))
+  pub records_more : Counted (records_from 0 (suc (length rows)) way ts rs) row
+      → RecordsAt ts (records_from 0 (suc (length rows)) way ts rs) (rows ++ (row ∷ []))
   unfolding c after
   records_more this =
       record {

@@ -123,7 +123,8 @@ call_on_says budget F vs t p = call_on_rec budget F (λ ws f. Proper ws → (u :
             each : (b : ℕ) → b < 2 → (n : ℕ) → Says F (set ws i (suc b)) (try budget next_go ws i (suc b) n)
             each b h n = paid (set ws i (suc b)) n (tried b h) (ltb n budget)
 
-pub call_on_model : (budget : ℕ) (F : List Clause) (vs : Values) (t : ℕ) (m : Values) (u : ℕ) → Proper vs → call_on budget F vs t ≡ model m u → LeastModel F vs m
+pub call_on_model : (budget : ℕ) (F : List Clause) (vs : Values) (t : ℕ) (m : Values) (u : ℕ) → Proper vs → call_on budget F vs t ≡ model m u
+    → LeastModel F vs m
 call_on_model budget F vs t m u p e = rw e at (call_on_says budget F vs t p)
 
 pub call_on_none : (budget : ℕ) (F : List Clause) (vs : Values) (t u : ℕ) → Proper vs → call_on budget F vs t ≡ no_model u → NoModelFrom F vs

@@ -1,6 +1,7 @@
 -- docs/RULES.md, "A witness to see": the model of a call, the witness of a free variable, what is refused, returned and written. Assumes
 -- nothing.
-use Rattle.std.specs.Prelude.{◌≡◌, ◌≢◌, Bool, true, false, ◌||◌, List, [], ◌∷◌, ◌++◌, map, ℕ, zero, suc, pred, ◌≤◌, eqb, ltb, ℤ, length, get_or, take, drop, replicate}
+use Rattle.std.specs.Prelude.{◌≡◌, ◌≢◌, Bool, true, false, ◌||◌, List, [], ◌∷◌, ◌++◌, map, ℕ, zero, suc, pred, ◌≤◌, eqb, ltb, ℤ, length, get_or, take}
+use Rattle.std.specs.Prelude.{drop, replicate}
 use Rattle.std.proofs.Math.Option.{Option, none, some}
 use Rattle.rules.specs.declared.Way.{Way}
 use Rattle.rules.specs.declared.Record.{Record}

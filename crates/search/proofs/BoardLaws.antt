@@ -126,7 +126,8 @@ module _ (x : Bool) where
       below i zero h n = absurd (omega arith)
       below i (suc v) h n = omega arith
 
-      go : (i : ℕ) → i < v → ((i ≡ pred v) × (value_at (set vs (pred v) (byte_of x)) i ≡ byte_of x)) ⊎ (value_at (set vs (pred v) (byte_of x)) i ≡ value_at vs i)
+      go : (i : ℕ) → i < v → ((i ≡ pred v) × (value_at (set vs (pred v) (byte_of x)) i ≡ byte_of x)) ⊎
+          (value_at (set vs (pred v) (byte_of x)) i ≡ value_at vs i)
           → (t : Bool) → eqb i (pred v) ≡ t → value_at (set vs (pred v) (byte_of x)) i ≢ 0
       go i h (inl q) t e z = byte_set (sym q.1 ∙ z)
       go i h (inr q) true e z =

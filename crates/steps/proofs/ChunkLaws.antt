@@ -47,7 +47,8 @@ forced_values_read (s ∷ ss) (suc i) = forced_values_read ss i
 
 -- ---- one index
 
-pub forces_open : (first ss : List ℕ) (i left : ℕ) → get_or ss i 0 ≡ 0 → 0 < left → ForcesAt i first left ss (left - 1) (set ss i (forced_by (get_or first i 0)))
+pub forces_open : (first ss : List ℕ) (i left : ℕ) → get_or ss i 0 ≡ 0 → 0 < left
+    → ForcesAt i first left ss (left - 1) (set ss i (forced_by (get_or first i 0)))
 forces_open first ss i zero z h = absurd (omega arith)
 forces_open first ss i (suc left) z h = record { status_is = rw z; left_is = rw z (omega arith) }
 

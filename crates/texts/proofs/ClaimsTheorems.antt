@@ -195,7 +195,8 @@ module _ {vars : ℕ} {G : List Clause} (v : vars ≤ max_vars) (f : length G �
       own (Memᴰ.head e) = rw e (omega (arith, (h c (Memᴰ.head refl)).up_to.most))
       own (Memᴰ.tail i) = tree_small (h c (Memᴰ.head refl)).holds (omega (arith, length-against vars c.literal)) f l i
 
-      go : In l (claim_numbers c) ⊎ In l (joined (map claim_numbers cs)) → (In l (joined (map claim_numbers cs)) → var_of l ≤ max_clauses) → var_of l ≤ max_clauses
+      go : In l (claim_numbers c) ⊎ In l (joined (map claim_numbers cs)) → (In l (joined (map claim_numbers cs)) → var_of l ≤ max_clauses)
+          → var_of l ≤ max_clauses
       go (inl i) ih = own i
       go (inr i) ih = ih i
 

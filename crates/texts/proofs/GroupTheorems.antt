@@ -178,7 +178,8 @@ module _ (sizes : List ℕ) (F : List Clause) (task : Task)
               ap (λ (w : Values). is_true w (pos (suc (index_in sizes g k)))) (sym same) ∙ used sizes F v g k o ∙
               eq-eqb (value_in (setup_in sizes n) g) k (f (setup_in sizes n) v)
 
-      byte_of_lem : {m : Values} → Model (vars_in sizes) (expanded sizes F) m → value_at m (index_in sizes g k) ≡ byte_if (eqb (value_in (setup_in sizes m) g) k)
+      byte_of_lem : {m : Values} → Model (vars_in sizes) (expanded sizes F) m
+          → value_at m (index_in sizes g k) ≡ byte_if (eqb (value_in (setup_in sizes m) g) k)
       byte_of_lem {m} x =
           let (v, same) = model_setup sizes F m x in
           ap (λ (w : Values). value_at w (index_in sizes g k)) (sym same) ∙ value_at-bytes_of v.is-setup (index_in sizes g k) ∙

@@ -167,7 +167,8 @@ module _ {vars : ℕ} {F : List Clause} (w : Within vars F) where
       LineEnd.at_lf
       (body_blank IsBlank.lf (body_plain F (λ cl i l j. omega (arith, literal_le cl i l j))))
 
-pub entries_of_le : (vars : ℕ) (F : List Clause) → ((cl : Clause) → In cl F → (l : ℤ) → In l cl → LitUpTo vars l) → (l : ℤ) → In l (entries_of F) → var_of l ≤ vars
+pub entries_of_le : (vars : ℕ) (F : List Clause) → ((cl : Clause) → In cl F → (l : ℤ) → In l cl → LitUpTo vars l) → (l : ℤ) → In l (entries_of F)
+    → var_of l ≤ vars
 entries_of_le vars [] h l i = absurd (Memᴰ.not-nil i)
 entries_of_le vars (cl ∷ F) h l i = go (Memᴰ.append_cases cl i) (entries_of_le vars F (λ d j. h d (Memᴰ.tail j)) l)
   where

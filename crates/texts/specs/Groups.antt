@@ -1,6 +1,7 @@
 -- docs/RULES.md, "Groups": switches with more than two positions. A file's groups, each by its number of values, as clauses before the
 -- file's own ones, and what a setup is: a list of values, one a group. Assumes nothing.
-use Rattle.std.specs.Prelude.{◌≡◌, Bool, true, false, not, List, [], ◌∷◌, ◌++◌, ℕ, zero, suc, pred, ◌+◌, ◌-◌, ◌≤◌, eqb, ltb, ℤ, pos, negsuc, length, get_or, take, drop}
+use Rattle.std.specs.Prelude.{◌≡◌, Bool, true, false, not, List, [], ◌∷◌, ◌++◌, ℕ, zero, suc, pred, ◌+◌, ◌-◌, ◌≤◌, eqb, ltb, ℤ, pos, negsuc, length}
+use Rattle.std.specs.Prelude.{get_or, take, drop}
 use Rattle.rules.specs.Lists.{any, all, sum_of, nth_index, tabled}
 use Rattle.rules.specs.Meaning.{Clause, Values}
 use Rattle.texts.specs.Plain.{entries_of}

@@ -1,6 +1,7 @@
 -- docs/RULES.md, "Groups": the judgement of a file of groups from left to right, what its reading returns, and what the entries and the
 -- sizes hold afterwards. Assumes nothing.
-use Rattle.std.specs.Prelude.{◌≡◌, Bool, true, false, not, ◌&&◌, ◌||◌, List, [], ◌∷◌, ◌++◌, ℕ, zero, suc, ◌+◌, ◌-◌, leb, ltb, ℤ, pos, negsuc, length, drop, replicate}
+use Rattle.std.specs.Prelude.{◌≡◌, Bool, true, false, not, ◌&&◌, ◌||◌, List, [], ◌∷◌, ◌++◌, ℕ, zero, suc, ◌+◌, ◌-◌, leb, ltb, ℤ, pos, negsuc, length}
+use Rattle.std.specs.Prelude.{drop, replicate}
 use Rattle.std.proofs.Math.Option.{Option, none, some}
 use Rattle.rules.specs.declared.GroupsAnswer.{GroupsAnswer}
 use Rattle.rules.specs.declared.GroupsReading.{GroupsReading}

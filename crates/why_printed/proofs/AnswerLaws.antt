@@ -99,7 +99,8 @@ module _ {text : List ℕ} {r : Reading} {after : List ℤ} (w : ReadList text r
         room = room_same list_text m;
       }
 
-pub refused_text : (text : List ℕ) (l : ℤ) {a : ReadAnswer} → judge max_entries text ≡ refused a → why_text_of text l ≡ refused_line (read_number a) (read_place a)
+pub refused_text : (text : List ℕ) (l : ℤ) {a : ReadAnswer} → judge max_entries text ≡ refused a
+    → why_text_of text l ≡ refused_line (read_number a) (read_place a)
 unfolding why_text_of
 refused_text text l e = ap (λ j. why_text_of_judged j l) e
 

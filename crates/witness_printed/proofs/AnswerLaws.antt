@@ -34,7 +34,8 @@ use Rattle.rules.specs.Answer.{taking_rules, out_of_limits, report_if}
 use Rattle.rules.specs.RunRefusals.{Accepted}
 use Rattle.texts.specs.Printed.{count_if_room, refused_line, table_budget, table_chunk}
 use Rattle.texts.specs.ModelLine.{model_line}
-use Rattle.rules.specs.Witness.{witness_at, free_in, Asked, asked, asked_task, few_literals, else_not_free, asked_refusal, asked_report, literals_from, literals_if}
+use Rattle.rules.specs.Witness.{witness_at, free_in, Asked, asked, asked_task, few_literals, else_not_free, asked_refusal, asked_report}
+use Rattle.rules.specs.Witness.{literals_from, literals_if}
 use Rattle.rules.specs.Witness.{first_after, witness_after, Witnesses, lent_for}
 use Rattle.texts.specs.WitnessPrinted.{literal_bit, bits_of, witness_asked, witness_text_if, witness_text_of_asked, witness_text_of_judged, witness_text_of}
 use Rattle.texts.specs.WitnessPrinted.{max_witness, PrintsWitness}

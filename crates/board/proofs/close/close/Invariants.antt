@@ -5,7 +5,8 @@ use Rattle.board.proofs.CloseLaws.{Closings}
 use Rattle.board.proofs.close.close.Given as goal
 
 abbrev pub invariant-loop-set : goal.invariant-loop-set
-invariant-loop-set l = Closings l.entries l.constraint l.lists l.holders l.marks l.initial.values l.initial.keys l.initial.hot l.initial.trail l.total l.rounds l.values l.keys l.hot l.trail
+invariant-loop-set l = Closings l.entries l.constraint l.lists l.holders l.marks l.initial.values l.initial.keys l.initial.hot l.initial.trail l.total
+    l.rounds l.values l.keys l.hot l.trail
 
 abbrev pub decreases-loop-set : goal.decreases-loop-set
 decreases-loop-set l = unsets l.values

@@ -4,7 +4,8 @@ use native.Mathlib.Omega.{arith}
 use borrow.Author.Tests.{le-leb, lt-leb}
 use Rattle.board.proofs.BlockLaws.{hot_pos, hot_le, blocks_same, blocks_falls, blocks_rises}
 use Rattle.board.proofs.keys.put_key.Goals as goal
-use Rattle.board.proofs.keys.put_key.Goals.{then-keys-i-le1+then-key-gt1, then-keys-i-le1+else-key-gt1, else-keys-i-le1+then-key-le1, else-keys-i-le1+else-key-le1}
+use Rattle.board.proofs.keys.put_key.Goals.{then-keys-i-le1+then-key-gt1, then-keys-i-le1+else-key-gt1, else-keys-i-le1+then-key-le1}
+use Rattle.board.proofs.keys.put_key.Goals.{else-keys-i-le1+else-key-le1}
 
 pub bounds-hot-block : goal.bounds-hot-block
 bounds-hot-block c =

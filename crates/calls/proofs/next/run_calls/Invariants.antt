@@ -6,7 +6,8 @@ use Rattle.calls.proofs.LoopLaws.{Kept}
 use Rattle.calls.proofs.next.run_calls.Given as goal
 
 abbrev pub invariant-loop-tally : goal.invariant-loop-tally
-invariant-loop-tally l = Kept l.entries l.limits l.first l.initial.tally l.initial.status l.initial.calls l.initial.ways l.initial.log l.initial.values l.tally l.status l.calls l.ways l.log l.values
+invariant-loop-tally l = Kept l.entries l.limits l.first l.initial.tally l.initial.status l.initial.calls l.initial.ways l.initial.log l.initial.values
+    l.tally l.status l.calls l.ways l.log l.values
     × BoardKept (length l.initial.status) l.entries l.starts l.lists l.holders l.marks l.shown l.keys l.hot l.trail
 
 abbrev pub decreases-loop-tally : goal.decreases-loop-tally

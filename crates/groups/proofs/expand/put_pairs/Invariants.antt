@@ -8,7 +8,8 @@ use Rattle.groups.proofs.ExpandLaws.{Putting}
 use Rattle.groups.proofs.expand.put_pairs.Given as goal
 
 abbrev pub invariant-loop-left : goal.invariant-loop-left
-invariant-loop-left l = Putting (entries_of (pairs_from l.first l.n)) l.at l.initial.out l.next l.out (entries_of (pairs_from l.low l.left)) × (l.low + l.left ≡ l.first + l.n)
+invariant-loop-left l = Putting (entries_of (pairs_from l.first l.n)) l.at l.initial.out l.next l.out (entries_of (pairs_from l.low l.left)) ×
+    (l.low + l.left ≡ l.first + l.n)
 
 abbrev pub decreases-loop-left : goal.decreases-loop-left
 decreases-loop-left l = l.left

@@ -8,7 +8,8 @@ use Rattle.search.proofs.OnBoardLaws.{Turn, turns_left}
 use Rattle.search.proofs.call.+go_on_try_value.Given as goal
 
 abbrev pub invariant-go_on-loop-value : goal.invariant-go_on-loop-value
-invariant-go_on-loop-value l = Turn l.entries l.constraint l.lists l.holders l.marks (take l.vars l.initial.values) (take (length l.starts) l.initial.keys) l.initial.hot l.initial.trail l.total l.initial.rest l.v.0
+invariant-go_on-loop-value l = Turn l.entries l.constraint l.lists l.holders l.marks (take l.vars l.initial.values) (take (length l.starts) l.initial.keys)
+    l.initial.hot l.initial.trail l.total l.initial.rest l.v.0
     (take l.vars l.values) (take (length l.starts) l.keys) l.hot l.trail l.rest l.value
 
 abbrev pub decreases-go_on-loop-value : goal.decreases-go_on-loop-value

@@ -13,7 +13,8 @@ pub put_pair-requires : goal.put_pair-requires
 put_pair-requires c =
     let by : RunAnswer → List ℕ =
     λ a. text_by a c.args.first.now c.args.witness.now in
-    let pair_ready : (a : RunAnswer) → c.args.report.answer ≡ a → by a ≡ lines_of c.args.first.now c.args.witness.now → PairReady c.args.first.now c.args.witness.now c.args.bits.now c.args.out.now =
+    let pair_ready : (a : RunAnswer) → c.args.report.answer ≡ a → by a ≡ lines_of c.args.first.now c.args.witness.now
+        → PairReady c.args.first.now c.args.witness.now c.args.bits.now c.args.out.now =
     λ a e f. let p = c.requires in
     record {
       first_len = p.first_len;
@@ -27,7 +28,8 @@ pub put_pair-requires-in-NoModel : goal.put_pair-requires-in-NoModel
 put_pair-requires-in-NoModel c =
     let by : RunAnswer → List ℕ =
     λ a. text_by a c.args.first.now c.args.witness.now in
-    let pair_ready : (a : RunAnswer) → c.args.report.answer ≡ a → by a ≡ lines_of c.args.first.now c.args.witness.now → PairReady c.args.first.now c.args.witness.now c.args.bits.now c.args.out.now =
+    let pair_ready : (a : RunAnswer) → c.args.report.answer ≡ a → by a ≡ lines_of c.args.first.now c.args.witness.now
+        → PairReady c.args.first.now c.args.witness.now c.args.bits.now c.args.out.now =
     λ a e f. let p = c.requires in
     record {
       first_len = p.first_len;
@@ -41,7 +43,8 @@ pub put_pair-requires-in-Stopped : goal.put_pair-requires-in-Stopped
 put_pair-requires-in-Stopped c =
     let by : RunAnswer → List ℕ =
     λ a. text_by a c.args.first.now c.args.witness.now in
-    let pair_ready : (a : RunAnswer) → c.args.report.answer ≡ a → by a ≡ lines_of c.args.first.now c.args.witness.now → PairReady c.args.first.now c.args.witness.now c.args.bits.now c.args.out.now =
+    let pair_ready : (a : RunAnswer) → c.args.report.answer ≡ a → by a ≡ lines_of c.args.first.now c.args.witness.now
+        → PairReady c.args.first.now c.args.witness.now c.args.bits.now c.args.out.now =
     λ a e f. let p = c.requires in
     record {
       first_len = p.first_len;
