@@ -115,7 +115,7 @@ module _ {n c : ℕ} {cl : Clause} {G : List Clause} {m : ℕ} {heads nexts owne
           rw (eqz_sound l k e, get_or-set_same heads (code_of k) (m + 1) 0 in_heads, eqz_refl k)
           (cell m (add-one m) (sym (get_or-set_same owners m c 0 or)) (rw (get_or-set_same nexts m (get_or heads (code_of k) 0) 0 nr) (w.below (code_of k)))
           (kept (sym (get_or-set_same nexts m (get_or heads (code_of k) 0) 0 nr))
-              (chain_frame m c (get_or heads (code_of k) 0) (w.below (code_of k)) (not_held h))))
+          (chain_frame m c (get_or heads (code_of k) 0) (w.below (code_of k)) (not_held h))))
       go l v false e =
           let d : code_of l ≢ code_of k = λ t. never (eqz_complete l k (code_of_same l k v.some u.some t)) e in
           rw (get_or-set_other heads (code_of k) (code_of l) (m + 1) 0 d)

@@ -135,7 +135,7 @@ module _ {codes : ℕ} {heads nexts owners starts_from holders-from : List ℕ} 
             let (p, le) = w.parts L t j lt in
             let s1 : get_or (set starts (k + 1) r) j 0 ≡ get_or starts j 0 = get_or-set_other starts (k + 1) j r 0 (λ x. absurd (omega arith)) in
             let s2 : get_or (set starts (k + 1) r) (j + 1) 0 ≡ get_or starts (j + 1) 0 = get_or-set_other starts (k + 1) (j + 1) r 0
-                (λ x. absurd (omega arith)) in (
+            (λ x. absurd (omega arith)) in (
               record {
                 ordered = omega (arith, s1, s2, p.ordered);
                 inside = omega (arith, s2, p.inside, same);

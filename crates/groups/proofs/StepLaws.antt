@@ -81,7 +81,7 @@ fits_of (sizes_due zero ss) at l h =
     clause_count_lem (between_sound 0 max_clauses l (not_refused (is_between 0 max_clauses l) (GroupsAnswer.OverSizes at) h))
 fits_of (sizes_due (suc n) ss) at l h =
     let (a, b) = neither (not (is_between min_size max_size l)) (ltb max_vars (vars_in ss + var_of l)) (GroupsAnswer.BadGroup at)
-        (GroupsAnswer.OverSizes at) h in
+    (GroupsAnswer.OverSizes at) h in
     size (between_sound min_size max_size l (not_not (is_between min_size max_size l) a)) (ltb-false max_vars (vars_in ss + var_of l) b)
 fits_of (entries_due ss c es) at l h =
     let (a, b) = neither (leb c (count is_zero es)) (ltb (vars_in ss) (var_of l)) (GroupsAnswer.TokenBehind at) (GroupsAnswer.TokenOverVars at) h in

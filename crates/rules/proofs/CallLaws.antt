@@ -119,7 +119,7 @@ on_closed_cong budget F vs f g e t = go (onward budget F vs t)
 
 module _ (budget : ℕ) (F : List Clause) (P : Values → (ℕ → Call) → Type 0)
     (step : (vs : Values) (next_go : Values → ℕ → Call) → ((ds : Values) → unsets ds < unsets vs → P ds (next_go ds))
-        → P vs (on_closed (closing F vs) budget next_go))
+    → P vs (on_closed (closing F vs) budget next_go))
   where
     go_on_rec : (n : ℕ) (vs : Values) → unsets vs ≤ n → P vs (go_on n budget F vs)
     unfolding go_on

@@ -218,7 +218,7 @@ words_lf at next xs ys =
     lines l ls =
         bytes_on at l (ls ++ cut is_lf ys) ∙ ap (λ (xss : List (List ℕ)). words_in l ++ xss) (words_on_append ls (cut is_lf ys)) ∙
         sym (ap (λ (xss : List (List ℕ)). xss ++ words_on (cut is_lf ys)) (bytes_on next l ls)
-            ∙ append_assoc (words_in l) (words_on ls) (words_on (cut is_lf ys)))
+        ∙ append_assoc (words_in l) (words_on ls) (words_on (cut is_lf ys)))
 
     go : {zs : List ℕ} {xss : List (List ℕ)} → Cut is_lf zs xss
         → bytes_of (tokens_on at (xss ++ cut is_lf ys)) ≡ bytes_of (tokens_on next xss) ++ words_on (cut is_lf ys)

@@ -392,14 +392,14 @@ module _ {text : List ℕ} {vars n : ℕ} {es : List ℤ} (d : Dimacs text vars 
   -- If its first line says answer 0, the line of a variable says `forced on` exactly if a model exists and all models make it true,
   pub table_forced_on : SaysAnswer 0 (table_of text held) → (i : ℕ) → i < vars
       → (line_at (table_of text held) (suc i) ≡ decimal (suc i) ++
-          (forced_word ++ on_word ++ held_word ++ decimal (get_or (hints_of (table_task vars es held)) i 0)))
+      (forced_word ++ on_word ++ held_word ++ decimal (get_or (hints_of (table_task vars es held)) i 0)))
       ↔ Forced vars (with_held (clauses es) held) (pos (suc i))
   table_forced_on = tables.table_forced_on d h
 
   -- `forced off` exactly if a model exists and all models make it false,
   pub table_forced_off : SaysAnswer 0 (table_of text held) → (i : ℕ) → i < vars
       → (line_at (table_of text held) (suc i) ≡ decimal (suc i) ++
-          (forced_word ++ off_word ++ held_word ++ decimal (get_or (hints_of (table_task vars es held)) i 0)))
+      (forced_word ++ off_word ++ held_word ++ decimal (get_or (hints_of (table_task vars es held)) i 0)))
       ↔ Forced vars (with_held (clauses es) held) (negsuc i)
   table_forced_off = tables.table_forced_off d h
 

@@ -96,7 +96,7 @@ too_large : (v c : ℕ) → (max_vars < v) ⊎ (max_clauses < c) → fits (recor
 too_large v c k =
     not-true (fits (record { vars = v; clauses = c }))
     (λ e. go k (leb-true v max_vars (and_left (leb v max_vars) (leb c max_clauses) e))
-        (leb-true c max_clauses (and_right (leb v max_vars) (leb c max_clauses) e)))
+    (leb-true c max_clauses (and_right (leb v max_vars) (leb c max_clauses) e)))
   where
     go : (max_vars < v) ⊎ (max_clauses < c) → v ≤ max_vars → c ≤ max_clauses → ⊥
     go (inl h) a b = omega arith

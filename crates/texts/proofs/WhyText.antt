@@ -289,7 +289,7 @@ length-why_text_of text l = go (judge max_entries text) refl
 
 pub prints_why_exists : (text : List ℕ) (l : ℤ) (before : List ℕ)
     → PrintsWhy text l before (count_if_room (leb max_why (length before)) (why_text_of text l))
-        (bytes_if_room (leb max_why (length before)) (why_text_of text l) before)
+    (bytes_if_room (leb max_why (length before)) (why_text_of text l) before)
 prints_why_exists text l before = record { count_is = refl; after_is = refl }
 
 pub prints_why_unique : {text : List ℕ} {l : ℤ} {before : List ℕ} {n n' : ℕ} {b b' : List ℕ}

@@ -13,7 +13,7 @@ pub returns-then-n-gt-MAX_ENTRIES : goal.returns-then-n-gt-MAX_ENTRIES
 returns-then-n-gt-MAX_ENTRIES c =
     let a = c.args in
     c.refused-then-n-gt-MAX_ENTRIES.ensures ∙ finished_long_entries a.groups a.vars a.clauses a.n (omega (arith, c.if-clauses-gt-MAX_CLAUSES.false))
-        c.if-n-gt-MAX_ENTRIES.true
+    c.if-n-gt-MAX_ENTRIES.true
 
 pub returns : goal.returns
 returns c =

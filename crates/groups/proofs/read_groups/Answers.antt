@@ -12,14 +12,14 @@ pub returns-then-sizes-lt-MAX_GROUPS : goal.returns-then-sizes-lt-MAX_GROUPS
 returns-then-sizes-lt-MAX_GROUPS c =
     let a = c.args in
     read_short_sizes a.text.now a.entries.now a.sizes.now (omega (arith, c.if-entries-lt-MAX_ENTRIES.false)) c.if-sizes-lt-MAX_GROUPS.true
-        c.refused-then-sizes-lt-MAX_GROUPS.result
+    c.refused-then-sizes-lt-MAX_GROUPS.result
     c.refused-then-sizes-lt-MAX_GROUPS.ensures
 
 pub returns-then-text-gt-MAX_TEXT : goal.returns-then-text-gt-MAX_TEXT
 returns-then-text-gt-MAX_TEXT c =
     let a = c.args in
     read_long a.text.now a.entries.now a.sizes.now (omega (arith, c.if-entries-lt-MAX_ENTRIES.false)) (omega (arith, c.if-sizes-lt-MAX_GROUPS.false))
-        c.if-text-gt-MAX_TEXT.true
+    c.if-text-gt-MAX_TEXT.true
     c.refused-then-text-gt-MAX_TEXT.result c.refused-then-text-gt-MAX_TEXT.ensures
 
 pub read_text-r-requires : goal.read_text-r-requires

@@ -11,7 +11,7 @@ returns-then-entries-lt-MAX_ENTRIES c =
 pub returns-then-text-gt-MAX_TEXT : goal.returns-then-text-gt-MAX_TEXT
 returns-then-text-gt-MAX_TEXT c =
     read_long c.args.text.now c.args.entries.now c.if-entries-lt-MAX_ENTRIES.false (omega (arith, c.if-text-gt-MAX_TEXT.true))
-        c.refused-then-text-gt-MAX_TEXT.result
+    c.refused-then-text-gt-MAX_TEXT.result
     c.refused-then-text-gt-MAX_TEXT.ensures
 
 pub clear-requires : goal.clear-requires
@@ -23,5 +23,5 @@ clear-requires c = (
 pub returns : goal.returns
 returns c =
     read_done c.args.text.now c.args.entries.now c.if-entries-lt-MAX_ENTRIES.false (omega (arith, c.if-text-gt-MAX_TEXT.false)) c.read_text-r.result
-        c.read_text-r.new.entries
+    c.read_text-r.new.entries
     c.clear.new.entries c.read_text-r.ensures c.clear.ensures

@@ -6,8 +6,14 @@ use Rattle.calls.proofs.after.after_none.Goals as goal
 
 pub overflow_add-result-2 : goal.overflow_add-result-2
 overflow_add-result-2 c =
-    omega (arith, count_le is_open c.args.status.now, c.requires.tally.candidates_are, c.requires.tally.vars_fit, c.requires.tally.forced_fit,
-        c.requires.chunk_most)
+    omega (
+      arith,
+      count_le is_open c.args.status.now,
+      c.requires.tally.candidates_are,
+      c.requires.tally.vars_fit,
+      c.requires.tally.forced_fit,
+      c.requires.chunk_most,
+    )
 
 pub returns : goal.returns
 returns c =

@@ -55,7 +55,7 @@ returns-in-TextEnd c =
 pub value_of-requires : goal.value_of-requires
 value_of-requires c =
     let facts : let l = c.loop-a in let a = c.args in (c.in-Is.e.number ≤ a.vars) × (l.complete < a.clauses) × (l.next < c.in-Is.to) ×
-        (c.in-Is.to ≤ length a.text.now) =
+    (c.in-Is.to ≤ length a.text.now) =
     clausing_next c.loop-a.invariant c.next_step.ensures c.in-Is.to c.in-Is.e c.in-Is.is in
     omega (arith, facts.0, c.requires)
 
@@ -73,24 +73,24 @@ overflow_add-n c =
 pub overflow_add-complete : goal.overflow_add-complete
 overflow_add-complete c =
     let facts : let l = c.loop-a in let a = c.args in (c.in-Is.e.number ≤ a.vars) × (l.complete < a.clauses) × (l.next < c.in-Is.to) ×
-        (c.in-Is.to ≤ length a.text.now) =
+    (c.in-Is.to ≤ length a.text.now) =
     clausing_next c.loop-a.invariant c.next_step.ensures c.in-Is.to c.in-Is.e c.in-Is.is in
     let r = facts in record { fits = omega (arith, r.1, c.ranges.clauses) }
 
 pub loop-a-smaller-then-e-eq0 : goal.loop-a-smaller-then-e-eq0
 loop-a-smaller-then-e-eq0 c =
     let facts : let l = c.loop-a in let a = c.args in (c.in-Is.e.number ≤ a.vars) × (l.complete < a.clauses) × (l.next < c.in-Is.to) ×
-        (c.in-Is.to ≤ length a.text.now) =
+    (c.in-Is.to ≤ length a.text.now) =
     clausing_next c.loop-a.invariant c.next_step.ensures c.in-Is.to c.in-Is.e c.in-Is.is in
     let r = facts in omega (arith, r.2, r.3)
 
 pub loop-a-preserved-then-e-eq0 : goal.loop-a-preserved-then-e-eq0
 loop-a-preserved-then-e-eq0 c =
     let facts : let l = c.loop-a in let a = c.args in (c.in-Is.e.number ≤ a.vars) × (l.complete < a.clauses) × (l.next < c.in-Is.to) ×
-        (c.in-Is.to ≤ length a.text.now) =
+    (c.in-Is.to ≤ length a.text.now) =
     clausing_next c.loop-a.invariant c.next_step.ensures c.in-Is.to c.in-Is.e c.in-Is.is in
     let stepped : let l = c.loop-a in let a = c.args in (complete : ℕ) → complete ≡ count_if (is_zero (value_of c.in-Is.e)) l.complete
-        → Clausing a.text.now a.at a.vars a.clauses a.base a.entries.now c.in-Is.to complete (l.n + 1) c.put_entry.new.entries =
+    → Clausing a.text.now a.at a.vars a.clauses a.base a.entries.now c.in-Is.to complete (l.n + 1) c.put_entry.new.entries =
     λ complete e. let l = c.loop-a in
     let back : to_z w32 (of_z w32 c.value_of.result) ≡ value_of c.in-Is.e =
     ap (λ (z : ℤ). to_z w32 (of_z w32 z)) c.value_of.ensures ∙ value_back c.in-Is.e (omega (arith, facts.0, c.requires)) in
@@ -101,17 +101,17 @@ loop-a-preserved-then-e-eq0 c =
 pub loop-a-smaller : goal.loop-a-smaller
 loop-a-smaller c =
     let facts : let l = c.loop-a in let a = c.args in (c.in-Is.e.number ≤ a.vars) × (l.complete < a.clauses) × (l.next < c.in-Is.to) ×
-        (c.in-Is.to ≤ length a.text.now) =
+    (c.in-Is.to ≤ length a.text.now) =
     clausing_next c.loop-a.invariant c.next_step.ensures c.in-Is.to c.in-Is.e c.in-Is.is in
     let r = facts in omega (arith, r.2, r.3)
 
 pub loop-a-preserved : goal.loop-a-preserved
 loop-a-preserved c =
     let facts : let l = c.loop-a in let a = c.args in (c.in-Is.e.number ≤ a.vars) × (l.complete < a.clauses) × (l.next < c.in-Is.to) ×
-        (c.in-Is.to ≤ length a.text.now) =
+    (c.in-Is.to ≤ length a.text.now) =
     clausing_next c.loop-a.invariant c.next_step.ensures c.in-Is.to c.in-Is.e c.in-Is.is in
     let stepped : let l = c.loop-a in let a = c.args in (complete : ℕ) → complete ≡ count_if (is_zero (value_of c.in-Is.e)) l.complete
-        → Clausing a.text.now a.at a.vars a.clauses a.base a.entries.now c.in-Is.to complete (l.n + 1) c.put_entry.new.entries =
+    → Clausing a.text.now a.at a.vars a.clauses a.base a.entries.now c.in-Is.to complete (l.n + 1) c.put_entry.new.entries =
     λ complete e. let l = c.loop-a in
     let back : to_z w32 (of_z w32 c.value_of.result) ≡ value_of c.in-Is.e =
     ap (λ (z : ℤ). to_z w32 (of_z w32 z)) c.value_of.ensures ∙ value_back c.in-Is.e (omega (arith, facts.0, c.requires)) in

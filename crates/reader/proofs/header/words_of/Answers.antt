@@ -8,7 +8,7 @@ use Rattle.reader.proofs.header.words_of.Goals as goal
 pub returns-then-more-line : goal.returns-then-more-line
 returns-then-more-line c =
     let cuts : Cuts c.args.line.now c.find-p_end.result c.find-cnf.result c.find-cnf_end.result c.find-vars.result c.find-vars_end.result
-        c.find-clauses.result c.find-clauses_end.result c.find-more.result =
+    c.find-clauses.result c.find-clauses_end.result c.find-more.result =
     record {
       p_to = c.find-p_end.ensures;
       cnf_from = c.find-cnf.ensures;
@@ -24,7 +24,7 @@ returns-then-more-line c =
 pub slice_bounds-sizes_of-end : goal.slice_bounds-sizes_of-end
 slice_bounds-sizes_of-end c =
     let cuts : Cuts c.args.line.now c.find-p_end.result c.find-cnf.result c.find-cnf_end.result c.find-vars.result c.find-vars_end.result
-        c.find-clauses.result c.find-clauses_end.result c.find-more.result =
+    c.find-clauses.result c.find-clauses_end.result c.find-more.result =
     record {
       p_to = c.find-p_end.ensures;
       cnf_from = c.find-cnf.ensures;
@@ -40,7 +40,7 @@ slice_bounds-sizes_of-end c =
 pub slice_bounds-sizes_of-end-2 : goal.slice_bounds-sizes_of-end-2
 slice_bounds-sizes_of-end-2 c =
     let cuts : Cuts c.args.line.now c.find-p_end.result c.find-cnf.result c.find-cnf_end.result c.find-vars.result c.find-vars_end.result
-        c.find-clauses.result c.find-clauses_end.result c.find-more.result =
+    c.find-clauses.result c.find-clauses_end.result c.find-more.result =
     record {
       p_to = c.find-p_end.ensures;
       cnf_from = c.find-cnf.ensures;
@@ -56,7 +56,7 @@ slice_bounds-sizes_of-end-2 c =
 pub slice_bounds-sizes_of-end-3 : goal.slice_bounds-sizes_of-end-3
 slice_bounds-sizes_of-end-3 c =
     let cuts : Cuts c.args.line.now c.find-p_end.result c.find-cnf.result c.find-cnf_end.result c.find-vars.result c.find-vars_end.result
-        c.find-clauses.result c.find-clauses_end.result c.find-more.result =
+    c.find-clauses.result c.find-clauses_end.result c.find-more.result =
     record {
       p_to = c.find-p_end.ensures;
       cnf_from = c.find-cnf.ensures;
@@ -72,7 +72,7 @@ slice_bounds-sizes_of-end-3 c =
 pub slice_bounds-sizes_of-end-4 : goal.slice_bounds-sizes_of-end-4
 slice_bounds-sizes_of-end-4 c =
     let cuts : Cuts c.args.line.now c.find-p_end.result c.find-cnf.result c.find-cnf_end.result c.find-vars.result c.find-vars_end.result
-        c.find-clauses.result c.find-clauses_end.result c.find-more.result =
+    c.find-clauses.result c.find-clauses_end.result c.find-more.result =
     record {
       p_to = c.find-p_end.ensures;
       cnf_from = c.find-cnf.ensures;
@@ -88,7 +88,7 @@ slice_bounds-sizes_of-end-4 c =
 pub returns : goal.returns
 returns c =
     let cuts : Cuts c.args.line.now c.find-p_end.result c.find-cnf.result c.find-cnf_end.result c.find-vars.result c.find-vars_end.result
-        c.find-clauses.result c.find-clauses_end.result c.find-more.result =
+    c.find-clauses.result c.find-clauses_end.result c.find-more.result =
     record {
       p_to = c.find-p_end.ensures;
       cnf_from = c.find-cnf.ensures;

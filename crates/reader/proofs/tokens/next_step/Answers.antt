@@ -47,7 +47,7 @@ slice_bounds-token_of-end c =
 pub returns-in-Malformed : goal.returns-in-Malformed
 returns-in-Malformed c =
     let goes_on : let s = c.args in let n = c.next_token-from.result in ends_text (sizes s.h) s.c.clauses (take (c.find-to.result - n) (drop n s.text.now))
-        ≡ false =
+    ≡ false =
     sym c.ends_text.ensures ∙ c.if-ends_text.false in
     let s = c.args in
     step_bad s.h s.text.now s.c c.next_token-from.result c.next_token-from.ensures c.find-to.result c.find-to.ensures c.if-text-from.false
@@ -56,7 +56,7 @@ returns-in-Malformed c =
 pub returns-in-Is : goal.returns-in-Is
 returns-in-Is c =
     let goes_on : let s = c.args in let n = c.next_token-from.result in ends_text (sizes s.h) s.c.clauses (take (c.find-to.result - n) (drop n s.text.now))
-        ≡ false =
+    ≡ false =
     sym c.ends_text.ensures ∙ c.if-ends_text.false in
     let s = c.args in
     step_of {step = entry_step s.h s.c c.next_token-from.result c.find-to.result (value_of c.in-Is.e)} c.judge_entry.ensures

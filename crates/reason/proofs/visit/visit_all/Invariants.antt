@@ -12,7 +12,7 @@ invariant-loop-n l = (length l.kept ≡ length l.initial.kept) × (length l.star
     (length l.values ≡ length l.initial.values) ×
     Visiting (question l.entries (length l.initial.values) l.initial.left.budget l.literal.0)
     (visits l.initial.n (question l.entries (length l.initial.values) l.initial.left.budget l.literal.0) l.initial.marks 2 l.initial.left.spent)
-        l.initial.n l.n l.calls l.left l.marks
+    l.initial.n l.n l.calls l.left l.marks
 
 abbrev pub decreases-loop-n : goal.decreases-loop-n
 decreases-loop-n l = l.n

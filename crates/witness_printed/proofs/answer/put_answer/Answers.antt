@@ -14,7 +14,7 @@ put_pair-requires c =
     let by : RunAnswer → List ℕ =
     λ a. text_by a c.args.first.now c.args.witness.now in
     let pair_ready : (a : RunAnswer) → c.args.report.answer ≡ a → by a ≡ lines_of c.args.first.now c.args.witness.now
-        → PairReady c.args.first.now c.args.witness.now c.args.bits.now c.args.out.now =
+    → PairReady c.args.first.now c.args.witness.now c.args.bits.now c.args.out.now =
     λ a e f. let p = c.requires in
     record {
       first_len = p.first_len;
@@ -29,7 +29,7 @@ put_pair-requires-in-NoModel c =
     let by : RunAnswer → List ℕ =
     λ a. text_by a c.args.first.now c.args.witness.now in
     let pair_ready : (a : RunAnswer) → c.args.report.answer ≡ a → by a ≡ lines_of c.args.first.now c.args.witness.now
-        → PairReady c.args.first.now c.args.witness.now c.args.bits.now c.args.out.now =
+    → PairReady c.args.first.now c.args.witness.now c.args.bits.now c.args.out.now =
     λ a e f. let p = c.requires in
     record {
       first_len = p.first_len;
@@ -44,7 +44,7 @@ put_pair-requires-in-Stopped c =
     let by : RunAnswer → List ℕ =
     λ a. text_by a c.args.first.now c.args.witness.now in
     let pair_ready : (a : RunAnswer) → c.args.report.answer ≡ a → by a ≡ lines_of c.args.first.now c.args.witness.now
-        → PairReady c.args.first.now c.args.witness.now c.args.bits.now c.args.out.now =
+    → PairReady c.args.first.now c.args.witness.now c.args.bits.now c.args.out.now =
     λ a e f. let p = c.requires in
     record {
       first_len = p.first_len;
