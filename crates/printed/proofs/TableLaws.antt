@@ -6,6 +6,7 @@
 --   counted_le, status_len        how many variables are counted, and statuses left
 --   run_ready, run_table, run_same, statuses_same     what a run with buffers of just the size leaves, and its table
 --   read_list, read_line          what a reading leaves: an entry list, or the line of its refusal
+--   list_long, list_table         what is handed on of an accepted text, and what is put for it
 --   prints_short, prints_table    the contract, in a short buffer and in others
 --   whole_room        a buffer of 9,216 bytes has room for every table
 --   prints_le         how many bytes are put at most
@@ -21,6 +22,7 @@ use native.Mathlib.Omega.{arith}
 use lib.IntN.{ℤ}
 use lib.Dec.{eqb, leb}
 use lib.ListN.{length, take, length-replicate, drop_of_length-le}
+use lib.Seq.{length-take-le}
 use borrow.Author.Tests.{leb-true, eqb-true, lt-ltb}
 use Rattle.rules.specs.declared.Reading.{Reading}
 use Rattle.rules.specs.declared.Refusal.{Refusal}
@@ -261,6 +263,16 @@ module _ {text : List ℕ} {before : List ℤ} {r : Reading} {after : List ℤ} 
         table_is =
             ap (λ (j : Judged). table_of_judged j held) w.judged ∙ ap (λ (v : ℕ). table_of_list v (take r.entries after) held) (sym w.vars_are);
       }
+
+-- an accepted text: how long the list is that is handed on, and what is put for it
+
+pub list_long : {text : List ℕ} {before : List ℤ} {r : Reading} {after : List ℤ} → Reads text before r after → length before ≡ max_entries
+    → read_number r.answer ≡ 0 → r.entries ≡ length (take r.entries after)
+list_long d z h = sym (length-take-le _ _ (read_list d z [] h).counted)
+
+pub list_table : (text : List ℕ) (held : List ℤ) {before : List ℤ} {r : Reading} {after : List ℤ} → Reads text before r after → length before ≡ max_entries
+    → read_number r.answer ≡ 0 → table_of text held ≡ table_of_list r.vars (take r.entries after) held
+list_table text held d z h = (read_list d z held h).table_is
 
 -- ---- the contract
 

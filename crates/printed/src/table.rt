@@ -107,6 +107,7 @@ fn put_list(out: &mut [u8], entries: &[i32], vars: u32, held: &[i32]) -> usize
 // The table of a text: the line of its refusal, or the table of its entries with the held literals.
 // Rules out: a table for a refused text; the line of another refusal.
 // Required of: print, by table_bound.
+#[tactic(auto, using(crate::proofs::TableLaws::list_long, crate::proofs::TableLaws::list_table))]
 pub fn put_text(out: &mut [u8], text: &[u8], held: &[i32], entries: &mut [i32]) -> usize
     requires { Room 0 (table_of text.now held.now) out.old × (length entries.old ≡ max_entries) }
     ensures { TextPut text.now held.now entries.old out.old

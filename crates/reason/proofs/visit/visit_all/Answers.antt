@@ -1,9 +1,7 @@
 -- `visit::visit_all` meets its contract. Assumes nothing.
-use mathlib.Core.Path.{◌≡◌, refl, ◌∙◌, ap}
-use Prim.Native.Nat.{ℕ}
+use mathlib.Core.Path.{◌≡◌, refl, ◌∙◌}
 use native.Mathlib.Omega.{arith}
 use native.Mathlib.Numerals.{add-one}
-use lib.ListN.{replicate}
 use Rattle.reason.proofs.AskLaws.{asked_same, visiting_start, visiting_at, visiting_step, visiting_stop, visiting_done}
 use Rattle.reason.proofs.visit.visit_all.Goals as goal
 
@@ -71,11 +69,7 @@ pub shape_of-marks : goal.shape_of-marks
 shape_of-marks c =
     c.loop-n.invariant.2
 
-pub shape_of-values : goal.shape_of-values
-shape_of-values c =
-    c.clear_bytes-2.auto.bytes ∙ c.loop-n.invariant.3
-
 pub returns : goal.returns
 returns c =
     let z : c.loop-n.n ≡ 0 = omega (arith, c.loop-n-test.false) in
-    visiting_done (rw z at c.loop-n.invariant.4) (c.clear_bytes-2.ensures ∙ ap (λ (k : ℕ). replicate k 0) c.loop-n.invariant.3)
+    visiting_done (rw z at c.loop-n.invariant.4) cc
