@@ -31,7 +31,7 @@ put_clause-requires c =
     let line : let a = c.args in
     other_line a.values.now a.n.0 (clause_at a.entries.now [] a.n.0) ≡ clause_text a.values.now c.clause_in-clause.result.now =
     let a = c.args in
-    line_other a.values.now a.n.0 (clause_at a.entries.now [] a.n.0) (true_is ∙ c.if-has_true.false) ∙
+    line_other a.values.now a.n.0 (clause_at a.entries.now [] a.n.0) (cc) ∙
     ap (clause_text a.values.now) (sym c.clause_in-clause.ensures) in (
       rw c.clause_in-clause.ensures (clause_of_up_to c.args.n.0 c.requires.0),
       room_same line c.requires.1,
@@ -46,6 +46,6 @@ returns c =
     let line : let a = c.args in
     other_line a.values.now a.n.0 (clause_at a.entries.now [] a.n.0) ≡ clause_text a.values.now c.clause_in-clause.result.now =
     let a = c.args in
-    line_other a.values.now a.n.0 (clause_at a.entries.now [] a.n.0) (true_is ∙ c.if-has_true.false) ∙
+    line_other a.values.now a.n.0 (clause_at a.entries.now [] a.n.0) (cc) ∙
     ap (clause_text a.values.now) (sym c.clause_in-clause.ensures) in
     put_same (sym line) c.put_clause.ensures
