@@ -12,7 +12,7 @@ use std::env::FillError;
 use std::rt::Env;
 
 // What one of the words that a program is started with says.
-#[derive(Drop)]
+#[derive(Clone, Copy)]
 pub enum Argument {
     Missing,
     NoNumber,

@@ -8,7 +8,7 @@ use crate::clause::clause_at;
 use rules::ClauseNo;
 
 // The entry list, and the number of variables.
-#[derive(Drop)]
+#[derive(Clone, Copy)]
 pub struct View<'a> {
     pub entries: &'a [i32],
     pub vars: usize,

@@ -8,7 +8,7 @@ use std::io::Read;
 use std::{fmt, io};
 
 // What came of reading standard input: how many bytes stand at the buffer's start, none if a read failed.
-#[derive(Drop)]
+#[derive(Clone, Copy)]
 pub struct Input {
     pub failed: bool,
     pub count: usize,

@@ -10,7 +10,7 @@ use std::rt::Env;
 use streams::{complain, read_input};
 
 // What the words say that the program is started with.
-#[derive(Drop)]
+#[derive(Clone, Copy)]
 pub enum Words {
     NoNumber,
     Numbers(usize),
