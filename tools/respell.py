@@ -2,7 +2,7 @@
 """Spells this repository's own definitions and lemmas as today's Rattle does: a name that begins with a small letter is in snake case, a dash joins two
 names, and a plain word is added with '_' (CONTRACT_STYLE.md of the kit, "Names"). Run once, after port.py, at the top of the repository.
 
-usage: respell.py [--pages] ROOT     --pages turns code spans of README.md, CHANGES.md, docs/ and must-fail edits too
+usage: respell.py [--table] ROOT     --table prints each old name beside the new one
 
 What is declared below crates/ in .antt files turns, as a whole word: in .antt files everywhere but in quoted text, in .rt files in clauses, ghost items
 and comments' code spans. Rust's own names, strings, files' names and library names stay. Where a lemma would have a definition's name it gets
@@ -119,7 +119,7 @@ def table(root):
 
 
 def turned(text, kind, turn, walk):
-    """The text with its names turned. kind: antt, rt or page; walk: a Proof.antt, where what stands behind a dot may be a step of the code."""
+    """The text with its names turned. kind: antt or rt; walk: a Proof.antt, where what stands behind a dot may be a step of the code."""
     own = set()
 
     def one(word, dotted):
@@ -140,8 +140,6 @@ def turned(text, kind, turn, walk):
         piece = SPAN.sub(lambda m: "`" + words(m[0][1:-1]) + "`", piece)
         return WORD.sub(lambda m: turn.get(m[0], m[0]) if m[0] not in APART and (re.search("[a-z][A-Z]", m[0]) or m[0] in own) else m[0], piece)
 
-    if kind == "page":
-        return "".join(p if n % 2 else prose(p) for n, p in enumerate([text]))
     comment = r"(?<![^\s(){}.;,@])--[^\n]*" if kind == "antt" else r"//[^\n]*"
     parts = re.split("(" + comment + r'|"(?:[^"\\\n]|\\.)*")', text)
     for piece in parts[::2]:
