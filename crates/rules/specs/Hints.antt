@@ -1,29 +1,30 @@
--- docs/RULES.md, "Which clause holds a switch": what the flip test answers, and the hints of a run. Assumes nothing.
-use Rattle.std.specs.Prelude.{◌≡◌, Bool, true, false, List, [], ℕ, pred, ◌≤◌, ◌<◌, ℤ, length, get_or, replicate}
+-- docs/RULES.md, "Which clause holds a switch": the flip test, and the hints of a run. Assumes nothing.
+use Rattle.std.specs.Prelude.{◌≡◌, Bool, true, false, List, [], ℕ, pred, ◌≤◌, ◌<◌, ℤ, length, get_or, replicate, Some, None}
 use Rattle.std.proofs.Math.Option.{Option, none, some}
-use Rattle.rules.specs.declared.Flip.{Flip}
+use Rattle.std.specs.declared.option.Option.{Option as Found}
+use Rattle.rules.specs.declared.ClauseNo.{ClauseNo}
 use Rattle.rules.specs.Lists.{In, tabled}
 use Rattle.rules.specs.Meaning.{Clause, Values, is_true, has_true, first_false}
 use Rattle.rules.specs.Search.{Call, model, no_model, stopped}
 use Rattle.rules.specs.Run.{Task, flipped, first_call}
 
--- no clause is made false: it may flip; else the first that is, by its number
-abbrev pub flip_by : Option ℕ → Flip
-flip_by none = Flip.May
-flip_by (some n) = Flip.HeldBy (record { 0 = n })
+-- the first clause that is made false, by its number; none, and it may flip
+abbrev pub flip_by : Option ℕ → Found ClauseNo
+flip_by none = None
+flip_by (some n) = Some (record { 0 = n })
 
 -- the variable at index i, flipped alone in the model
-abbrev pub flip_test : List Clause → Values → ℕ → Flip
+abbrev pub flip_test : List Clause → Values → ℕ → Found ClauseNo
 flip_test F m i = flip_by (first_false (flipped m i) F)
 
-abbrev pub may_flip : Flip → Bool
-may_flip Flip.May = true
-may_flip (Flip.HeldBy n) = false
+abbrev pub may_flip : Found ClauseNo → Bool
+may_flip None = true
+may_flip (Some n) = false
 
 -- the number of the clause that holds it, 0 if none does
-abbrev pub hint_number : Flip → ℕ
-hint_number Flip.May = 0
-hint_number (Flip.HeldBy n) = n.0
+abbrev pub hint_number : Found ClauseNo → ℕ
+hint_number None = 0
+hint_number (Some n) = n.0
 
 -- the hint of the variable at index i, judged in a model
 abbrev pub hint_at : List Clause → Values → ℕ → ℕ

@@ -77,13 +77,6 @@ pub enum ClauseState {
     Undecided,
 }
 
-// What the flip test answers ("Run"): the variable may be flipped alone, or the first clause, in order, that this would make false.
-#[derive(Clone, Copy)]
-pub enum Flip {
-    May,
-    HeldBy(ClauseNo),
-}
-
 // What a call of the search ends with ("What comes back": 1, 2, 3).
 #[derive(Clone, Copy)]
 pub enum Outcome {

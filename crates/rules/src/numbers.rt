@@ -1,245 +1,292 @@
 // The numbers and places of docs/RULES.md, "What comes back", for each answer.
-ghost use Rattle.std.specs.Prelude.{◌≡◌};
+ghost use Rattle.std.specs.Prelude.{◌≡◌, ℕ};
+ghost use Rattle.std.proofs.Common.{rules};
 ghost use Rattle.rules.specs.Numbers.{outcome_number, way_number, read_number, read_place, refusal_number, refusal_place};
 ghost use Rattle.rules.specs.Numbers.{run_number, run_place, groups_number, groups_place, claims_number, claims_place};
 ghost use Rattle.rules.specs.Why.{why_number, why_place};
 ghost use Rattle.rules.specs.Close.{close_number, close_place};
 
+use crate::{
+    ClaimsAnswer, CloseAnswer, GroupsAnswer, MAX_HELD, MAX_TEXT, Outcome, ReadAnswer, Refusal,
+    RunAnswer, Way, WhyAnswer,
+};
+
 // The log's second column.
-// Rules out: 2 for a stopped call; 0 for a model.
-pub fn outcome_number(outcome: crate::Outcome) -> u32
-    ensures { result ≡ outcome_number outcome }
-{
-    match outcome {
-        crate::Outcome::Model => 1,
-        crate::Outcome::NoModel => 2,
-        crate::Outcome::Stopped => 3,
+impl From<Outcome> for u32 {
+    ghost from_gives = { λ o r. r ≡ outcome_number o };
+
+    // Rules out: 2 for a stopped call; 0 for a model.
+    fn from(outcome: Outcome) -> u32 {
+        match outcome {
+            Outcome::Model => 1,
+            Outcome::NoModel => 2,
+            Outcome::Stopped => 3,
+        }
     }
 }
 
 // The byte of a way.
-// Rules out: 1 for a flip; 0 for a chunk.
-pub fn way_number(way: crate::Way) -> u8
-    ensures { result ≡ way_number way }
-{
-    match way {
-        crate::Way::Open => 0,
-        crate::Way::Compare => 1,
-        crate::Way::Flip => 2,
-        crate::Way::Chunk => 3,
+impl From<Way> for u8 {
+    ghost from_gives = { λ w r. r ≡ way_number w };
+
+    // Rules out: 1 for a flip; 0 for a chunk.
+    fn from(way: Way) -> u8 {
+        match way {
+            Way::Open => 0,
+            Way::Compare => 1,
+            Way::Flip => 2,
+            Way::Chunk => 3,
+        }
     }
 }
 
-// The number of a reading's answer.
-// Rules out: 3 for a header over the sizes; 0 for a refusal.
-pub fn read_number(answer: crate::ReadAnswer) -> u32
-    ensures { result ≡ read_number answer }
-{
-    match answer {
-        crate::ReadAnswer::Accepted => 0,
-        crate::ReadAnswer::ShortBuffer => 1,
-        crate::ReadAnswer::LongText => 2,
-        crate::ReadAnswer::BadHeader(_) => 3,
-        crate::ReadAnswer::LargeHeader(_) => 4,
-        crate::ReadAnswer::BadToken(_) => 5,
-        crate::ReadAnswer::TokenBehind(_) => 6,
-        crate::ReadAnswer::TokenOverVars(_) => 7,
-        crate::ReadAnswer::ManyTokens(_) => 8,
-        crate::ReadAnswer::ShortText(_) => 9,
-    }
+// What comes back with a number, and a place where there is one.
+pub trait Answer {
+    ghost number_of: { Self → ℕ };
+
+    ghost place_of: { Self → ℕ };
+
+    fn number(self) -> u32
+        ensures { result ≡ number_of self };
+
+    fn place(self) -> usize
+        ensures { result ≡ place_of self };
+
+    // What is not refused has no place.
+    ghost unplaced: { (answer : Self) → number_of answer ≡ 0 → place_of answer ≡ 0 };
 }
 
-// The place of a reading's answer.
-// Rules out: 0 for a malformed token at 10; the length of a text over 32,768 bytes.
-pub fn read_place(answer: crate::ReadAnswer) -> usize
-    ensures { result ≡ read_place answer }
-{
-    match answer {
-        crate::ReadAnswer::Accepted => 0,
-        crate::ReadAnswer::ShortBuffer => 0,
-        crate::ReadAnswer::LongText => crate::MAX_TEXT,
-        crate::ReadAnswer::BadHeader(at) => at,
-        crate::ReadAnswer::LargeHeader(at) => at,
-        crate::ReadAnswer::BadToken(at) => at,
-        crate::ReadAnswer::TokenBehind(at) => at,
-        crate::ReadAnswer::TokenOverVars(at) => at,
-        crate::ReadAnswer::ManyTokens(at) => at,
-        crate::ReadAnswer::ShortText(at) => at,
+// a reading's answer.
+impl Answer for ReadAnswer {
+    ghost number_of = { read_number };
+
+    ghost place_of = { read_place };
+
+    // Rules out: 3 for a header over the sizes; 0 for a refusal.
+    fn number(self) -> u32 {
+        match self {
+            ReadAnswer::Accepted => 0,
+            ReadAnswer::ShortBuffer => 1,
+            ReadAnswer::LongText => 2,
+            ReadAnswer::BadHeader(_) => 3,
+            ReadAnswer::LargeHeader(_) => 4,
+            ReadAnswer::BadToken(_) => 5,
+            ReadAnswer::TokenBehind(_) => 6,
+            ReadAnswer::TokenOverVars(_) => 7,
+            ReadAnswer::ManyTokens(_) => 8,
+            ReadAnswer::ShortText(_) => 9,
+        }
     }
+
+    // Rules out: 0 for a malformed token at 10; the length of a text over 32,768 bytes.
+    fn place(self) -> usize {
+        match self {
+            ReadAnswer::Accepted => 0,
+            ReadAnswer::ShortBuffer => 0,
+            ReadAnswer::LongText => MAX_TEXT,
+            ReadAnswer::BadHeader(at) => at,
+            ReadAnswer::LargeHeader(at) => at,
+            ReadAnswer::BadToken(at) => at,
+            ReadAnswer::TokenBehind(at) => at,
+            ReadAnswer::TokenOverVars(at) => at,
+            ReadAnswer::ManyTokens(at) => at,
+            ReadAnswer::ShortText(at) => at,
+        }
+    }
+
+    ghost unplaced = { Prim.search rules };
 }
 
-// The number of a refusal.
-// Rules out: 11 for a variable above V; 1 for limits that are not allowed.
-pub fn refusal_number(refusal: crate::Refusal) -> u32
-    ensures { result ≡ refusal_number refusal }
-{
-    match refusal {
-        crate::Refusal::ShortBuffer => 1,
-        crate::Refusal::BadLimits => 10,
-        crate::Refusal::BadList(_) => 11,
-        crate::Refusal::EntryOverVars(_) => 12,
-        crate::Refusal::BadLiteral(_) => 13,
-        crate::Refusal::NotFree => 14,
-        crate::Refusal::ManyHeld => 15,
+// a refusal.
+impl Answer for Refusal {
+    ghost number_of = { refusal_number };
+
+    ghost place_of = { refusal_place };
+
+    // Rules out: 11 for a variable above V; 1 for limits that are not allowed.
+    fn number(self) -> u32 {
+        match self {
+            Refusal::ShortBuffer => 1,
+            Refusal::BadLimits => 10,
+            Refusal::BadList(_) => 11,
+            Refusal::EntryOverVars(_) => 12,
+            Refusal::BadLiteral(_) => 13,
+            Refusal::NotFree => 14,
+            Refusal::ManyHeld => 15,
+        }
     }
+
+    // Rules out: 0 for a variable above V at index 2; 1 for a buffer that is too short.
+    fn place(self) -> usize {
+        match self {
+            Refusal::ShortBuffer => 0,
+            Refusal::BadLimits => 0,
+            Refusal::BadList(at) => at,
+            Refusal::EntryOverVars(at) => at,
+            Refusal::BadLiteral(at) => at,
+            Refusal::NotFree => 0,
+            Refusal::ManyHeld => MAX_HELD,
+        }
+    }
+
+    ghost unplaced = { Prim.search rules };
 }
 
-// The place of a refusal.
-// Rules out: 0 for a variable above V at index 2; 1 for a buffer that is too short.
-pub fn refusal_place(refusal: crate::Refusal) -> usize
-    ensures { result ≡ refusal_place refusal }
-{
-    match refusal {
-        crate::Refusal::ShortBuffer => 0,
-        crate::Refusal::BadLimits => 0,
-        crate::Refusal::BadList(at) => at,
-        crate::Refusal::EntryOverVars(at) => at,
-        crate::Refusal::BadLiteral(at) => at,
-        crate::Refusal::NotFree => 0,
-        crate::Refusal::ManyHeld => crate::MAX_HELD,
+// a run's answer.
+impl Answer for RunAnswer {
+    ghost number_of = { run_number };
+
+    ghost place_of = { run_place };
+
+    // Rules out: 20 for a stopped run; 0 for a refused one.
+    fn number(self) -> u32 {
+        match self {
+            RunAnswer::Settled => 0,
+            RunAnswer::NoModel => 20,
+            RunAnswer::Stopped => 21,
+            RunAnswer::Refused(refusal) => refusal.number(),
+        }
     }
+
+    // Rules out: 0 for a list refused at index 2; 1 for a settled run.
+    fn place(self) -> usize {
+        match self {
+            RunAnswer::Settled => 0,
+            RunAnswer::NoModel => 0,
+            RunAnswer::Stopped => 0,
+            RunAnswer::Refused(refusal) => refusal.place(),
+        }
+    }
+
+    ghost unplaced = { Prim.search rules };
 }
 
-// The number of a run's answer.
-// Rules out: 20 for a stopped run; 0 for a refused one.
-pub fn run_number(answer: crate::RunAnswer) -> u32
-    ensures { result ≡ run_number answer }
-{
-    match answer {
-        crate::RunAnswer::Settled => 0,
-        crate::RunAnswer::NoModel => 20,
-        crate::RunAnswer::Stopped => 21,
-        crate::RunAnswer::Refused(refusal) => refusal_number(refusal),
+// the answer to why a literal is forced.
+impl Answer for WhyAnswer {
+    ghost number_of = { why_number };
+
+    ghost place_of = { why_place };
+
+    // Rules out: 0 for a literal that is not; 20 where it is false in a model.
+    fn number(self) -> u32 {
+        match self {
+            WhyAnswer::Kept => 0,
+            WhyAnswer::NoModel => 20,
+            WhyAnswer::Stopped => 21,
+            WhyAnswer::NotForced => 22,
+            WhyAnswer::Refused(refusal) => refusal.number(),
+        }
     }
+
+    // Rules out: 0 for a list refused at index 2; 1 for a literal that is not forced.
+    fn place(self) -> usize {
+        match self {
+            WhyAnswer::Kept => 0,
+            WhyAnswer::NoModel => 0,
+            WhyAnswer::Stopped => 0,
+            WhyAnswer::NotForced => 0,
+            WhyAnswer::Refused(refusal) => refusal.place(),
+        }
+    }
+
+    ghost unplaced = { Prim.search rules };
 }
 
-// The place of a run's answer.
-// Rules out: 0 for a list refused at index 2; 1 for a settled run.
-pub fn run_place(answer: crate::RunAnswer) -> usize
-    ensures { result ≡ run_place answer }
-{
-    match answer {
-        crate::RunAnswer::Settled => 0,
-        crate::RunAnswer::NoModel => 0,
-        crate::RunAnswer::Stopped => 0,
-        crate::RunAnswer::Refused(refusal) => refusal_place(refusal),
+// a closing's answer.
+impl Answer for CloseAnswer {
+    ghost number_of = { close_number };
+
+    ghost place_of = { close_place };
+
+    // Rules out: 0 for a clash; 20 for a closed set.
+    fn number(self) -> u32 {
+        match self {
+            CloseAnswer::Closed => 0,
+            CloseAnswer::Clash => 20,
+            CloseAnswer::Refused(refusal) => refusal.number(),
+        }
     }
+
+    // Rules out: 0 for a list refused at index 2; 1 for a clash.
+    fn place(self) -> usize {
+        match self {
+            CloseAnswer::Closed => 0,
+            CloseAnswer::Clash => 0,
+            CloseAnswer::Refused(refusal) => refusal.place(),
+        }
+    }
+
+    ghost unplaced = { Prim.search rules };
 }
 
-// The number of the answer to why a literal is forced.
-// Rules out: 0 for a literal that is not; 20 where it is false in a model.
-pub fn why_number(answer: crate::WhyAnswer) -> u32
-    ensures { result ≡ why_number answer }
-{
-    match answer {
-        crate::WhyAnswer::Kept => 0,
-        crate::WhyAnswer::NoModel => 20,
-        crate::WhyAnswer::Stopped => 21,
-        crate::WhyAnswer::NotForced => 22,
-        crate::WhyAnswer::Refused(refusal) => refusal_number(refusal),
+// the answer of a reading of groups.
+impl Answer for GroupsAnswer {
+    ghost number_of = { groups_number };
+
+    ghost place_of = { groups_place };
+
+    // Rules out: 3 for a size of 1; 4 for a list over 1,024 clauses.
+    fn number(self) -> u32 {
+        match self {
+            GroupsAnswer::Accepted => 0,
+            GroupsAnswer::ShortBuffer => 1,
+            GroupsAnswer::LongText => 2,
+            GroupsAnswer::OverSizes(_) => 4,
+            GroupsAnswer::BadToken(_) => 5,
+            GroupsAnswer::TokenBehind(_) => 6,
+            GroupsAnswer::TokenOverVars(_) => 7,
+            GroupsAnswer::ShortText(_) => 9,
+            GroupsAnswer::LongList => 11,
+            GroupsAnswer::BadGroup(_) => 16,
+        }
     }
+
+    // Rules out: 0 for a size of 1 at 2; the length of a text over 32,768 bytes.
+    fn place(self) -> usize {
+        match self {
+            GroupsAnswer::Accepted => 0,
+            GroupsAnswer::ShortBuffer => 0,
+            GroupsAnswer::LongText => MAX_TEXT,
+            GroupsAnswer::OverSizes(at) => at,
+            GroupsAnswer::BadToken(at) => at,
+            GroupsAnswer::TokenBehind(at) => at,
+            GroupsAnswer::TokenOverVars(at) => at,
+            GroupsAnswer::ShortText(at) => at,
+            GroupsAnswer::LongList => 0,
+            GroupsAnswer::BadGroup(at) => at,
+        }
+    }
+
+    ghost unplaced = { Prim.search rules };
 }
 
-// Its place.
-// Rules out: 0 for a list refused at index 2; 1 for a literal that is not forced.
-pub fn why_place(answer: crate::WhyAnswer) -> usize
-    ensures { result ≡ why_place answer }
-{
-    match answer {
-        crate::WhyAnswer::Kept => 0,
-        crate::WhyAnswer::NoModel => 0,
-        crate::WhyAnswer::Stopped => 0,
-        crate::WhyAnswer::NotForced => 0,
-        crate::WhyAnswer::Refused(refusal) => refusal_place(refusal),
-    }
-}
+// the answer to a file of claims.
+impl Answer for ClaimsAnswer {
+    ghost number_of = { claims_number };
 
-// The number of a closing's answer.
-// Rules out: 0 for a clash; 20 for a closed set.
-pub fn close_number(answer: crate::CloseAnswer) -> u32
-    ensures { result ≡ close_number answer }
-{
-    match answer {
-        crate::CloseAnswer::Closed => 0,
-        crate::CloseAnswer::Clash => 20,
-        crate::CloseAnswer::Refused(refusal) => refusal_number(refusal),
-    }
-}
+    ghost place_of = { claims_place };
 
-// Its place.
-// Rules out: 0 for a list refused at index 2; 1 for a clash.
-pub fn close_place(answer: crate::CloseAnswer) -> usize
-    ensures { result ≡ close_place answer }
-{
-    match answer {
-        crate::CloseAnswer::Closed => 0,
-        crate::CloseAnswer::Clash => 0,
-        crate::CloseAnswer::Refused(refusal) => refusal_place(refusal),
+    // Rules out: 0 for a number at fault; 17 for a malformed token.
+    fn number(self) -> u32 {
+        match self {
+            ClaimsAnswer::Accepted(_) => 0,
+            ClaimsAnswer::LongText => 2,
+            ClaimsAnswer::BadToken(_) => 5,
+            ClaimsAnswer::Rejected(_) => 17,
+            ClaimsAnswer::Refused(refusal) => refusal.number(),
+        }
     }
-}
 
-// The number of the answer of a reading of groups.
-// Rules out: 3 for a size of 1; 4 for a list over 1,024 clauses.
-pub fn groups_number(answer: crate::GroupsAnswer) -> u32
-    ensures { result ≡ groups_number answer }
-{
-    match answer {
-        crate::GroupsAnswer::Accepted => 0,
-        crate::GroupsAnswer::ShortBuffer => 1,
-        crate::GroupsAnswer::LongText => 2,
-        crate::GroupsAnswer::OverSizes(_) => 4,
-        crate::GroupsAnswer::BadToken(_) => 5,
-        crate::GroupsAnswer::TokenBehind(_) => 6,
-        crate::GroupsAnswer::TokenOverVars(_) => 7,
-        crate::GroupsAnswer::ShortText(_) => 9,
-        crate::GroupsAnswer::LongList => 11,
-        crate::GroupsAnswer::BadGroup(_) => 16,
+    // Rules out: the number of claims for an accepted file; the length of a text over 32,768 bytes.
+    fn place(self) -> usize {
+        match self {
+            ClaimsAnswer::Accepted(_) => 0,
+            ClaimsAnswer::LongText => MAX_TEXT,
+            ClaimsAnswer::BadToken(at) => at,
+            ClaimsAnswer::Rejected(at) => at,
+            ClaimsAnswer::Refused(refusal) => refusal.place(),
+        }
     }
-}
 
-// Its place.
-// Rules out: 0 for a size of 1 at 2; the length of a text over 32,768 bytes.
-pub fn groups_place(answer: crate::GroupsAnswer) -> usize
-    ensures { result ≡ groups_place answer }
-{
-    match answer {
-        crate::GroupsAnswer::Accepted => 0,
-        crate::GroupsAnswer::ShortBuffer => 0,
-        crate::GroupsAnswer::LongText => crate::MAX_TEXT,
-        crate::GroupsAnswer::OverSizes(at) => at,
-        crate::GroupsAnswer::BadToken(at) => at,
-        crate::GroupsAnswer::TokenBehind(at) => at,
-        crate::GroupsAnswer::TokenOverVars(at) => at,
-        crate::GroupsAnswer::ShortText(at) => at,
-        crate::GroupsAnswer::LongList => 0,
-        crate::GroupsAnswer::BadGroup(at) => at,
-    }
-}
-
-// The number of the answer to a file of claims.
-// Rules out: 0 for a number at fault; 17 for a malformed token.
-pub fn claims_number(answer: crate::ClaimsAnswer) -> u32
-    ensures { result ≡ claims_number answer }
-{
-    match answer {
-        crate::ClaimsAnswer::Accepted(_) => 0,
-        crate::ClaimsAnswer::LongText => 2,
-        crate::ClaimsAnswer::BadToken(_) => 5,
-        crate::ClaimsAnswer::Rejected(_) => 17,
-        crate::ClaimsAnswer::Refused(refusal) => refusal_number(refusal),
-    }
-}
-
-// Its place.
-// Rules out: the number of claims for an accepted file; the length of a text over 32,768 bytes.
-pub fn claims_place(answer: crate::ClaimsAnswer) -> usize
-    ensures { result ≡ claims_place answer }
-{
-    match answer {
-        crate::ClaimsAnswer::Accepted(_) => 0,
-        crate::ClaimsAnswer::LongText => crate::MAX_TEXT,
-        crate::ClaimsAnswer::BadToken(at) => at,
-        crate::ClaimsAnswer::Rejected(at) => at,
-        crate::ClaimsAnswer::Refused(refusal) => refusal_place(refusal),
-    }
+    ghost unplaced = { Prim.search rules };
 }
