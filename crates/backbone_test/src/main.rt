@@ -5,7 +5,7 @@
 // the rows of the calls begun, and how many elements of each buffer are still 7, which all of them were before.
 // `crates/backbone_test/stdout` was written by hand from the page.
 use rules::Report;
-use rules::numbers::{run_number, run_place};
+use rules::numbers::Answer;
 use std::io;
 
 fn word(rt: &impl Print, text: &[u8]) -> io::Result<()> {
@@ -107,8 +107,8 @@ fn numbers_kept(log: &[u32]) -> u64 {
 fn show_report(rt: &impl Print, name: &[u8], r: Report) -> io::Result<()> {
     let answer = r.answer;
     word(rt, name)?;
-    field(rt, run_number(answer) as u64)?;
-    field(rt, run_place(answer) as u64)?;
+    field(rt, answer.number() as u64)?;
+    field(rt, answer.place() as u64)?;
     field(rt, r.calls as u64)?;
     field(rt, r.tries as u64)?;
     field(rt, r.forced as u64)?;

@@ -9,7 +9,7 @@ ghost use Rattle.claims_printed.specs.Verdict.{TextPut};
 use buffers::put::{put_byte, put_field, put_word};
 use lines::line::put_refused;
 use rules::ClaimsAnswer;
-use rules::numbers::{claims_number, claims_place, read_number, read_place};
+use rules::numbers::Answer;
 
 // The line of an accepted file.
 // Rules out: a number that is not that of its claims; a line without LF.
@@ -30,8 +30,8 @@ fn put_verdict(out: &mut [u8], answer: ClaimsAnswer) -> usize
     requires { Room 0 (claims_line answer) out.old }
     ensures { Put 0 (claims_line answer) out.old result out.new }
 {
-    let number = claims_number(answer);
-    let place = claims_place(answer);
+    let number = answer.number();
+    let place = answer.place();
     match answer {
         ClaimsAnswer::Accepted(n) => put_accepted(out, n),
         ClaimsAnswer::LongText => put_refused(out, 0, number, place),
@@ -50,13 +50,13 @@ pub fn put_text(out: &mut [u8], text: &[u8], claims: &[u8], entries: &mut [i32])
 {
     let reading = reader::read(text, entries);
     let answer = reading.answer;
-    let number = read_number(answer);
+    let number = answer.number();
     if number == 0 {
         let n = reading.entries;
         let vars = reading.vars;
         let verdict = claims::check_claims(&entries[..n], vars, claims);
         return put_verdict(out, verdict);
     }
-    let place = read_place(answer);
+    let place = answer.place();
     put_refused(out, 0, number, place)
 }

@@ -10,7 +10,7 @@ ghost use Rattle.groups_printed.specs.Table.{ListReady, TableReady};
 
 use crate::line::put_groups;
 use lines::line::{put_answer, put_refused};
-use rules::numbers::{groups_number, groups_place, run_number};
+use rules::numbers::Answer;
 use rules::{TABLE_BUDGET, TABLE_CHUNK};
 
 // The answer line, and a line for each value. After 20 there is no valid setup and nothing to say of a value.
@@ -21,7 +21,7 @@ fn put_table(out: &mut [u8], sizes: &[u8], vars: u32, report: rules::Report, sta
     ensures { Put 0 (groups_table_of_run sizes.now report status.now) out.old result out.new }
 {
     let answer = report.answer;
-    let number = run_number(answer);
+    let number = answer.number();
     let next = put_answer(out, 0, vars, report);
     if number == 20 {
         return next;
@@ -97,13 +97,13 @@ pub fn put_text(out: &mut [u8], text: &[u8], entries: &mut [i32], sizes: &mut [u
 {
     let reading = groups::read_groups(text, entries, sizes);
     let answer = reading.answer;
-    let number = groups_number(answer);
+    let number = answer.number();
     if number == 0 {
         let n = reading.entries;
         let g = reading.groups as usize;
         let vars = reading.vars;
         return put_list(out, &entries[..n], &sizes[..g], vars);
     }
-    let place = groups_place(answer);
+    let place = answer.place();
     put_refused(out, 0, number, place)
 }

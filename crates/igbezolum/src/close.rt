@@ -4,7 +4,7 @@ ghost use Rattle.rules.specs.Numbers.{max_entries};
 ghost use Rattle.rules.specs.Close.{close_place, close_given};
 ghost use Rattle.igbezolum.specs.CloseLinked.{close_numbers, ClosesIn};
 
-use rules::numbers::{close_number, close_place};
+use rules::numbers::Answer;
 
 // What is returned, in numbers.
 #[repr(C)]
@@ -22,8 +22,8 @@ fn close_numbers(report: rules::CloseReport) -> IgbClosing
 {
     let answer = report.answer;
     IgbClosing {
-        answer: close_number(answer),
-        place: close_place(answer) as u32,
+        answer: answer.number(),
+        place: answer.place() as u32,
         rounds: report.rounds,
         set: report.set,
     }

@@ -4,7 +4,7 @@ ghost use Rattle.texts.specs.GroupsReading.{groups_given};
 ghost use Rattle.texts.specs.GroupsPrinted.{PrintsGroups};
 ghost use Rattle.igbezolum.specs.GroupsLinked.{groups_numbers, GroupsFit, ReadsGroupsIn};
 
-use rules::numbers::{groups_number, groups_place};
+use rules::numbers::Answer;
 
 // What a reading of groups returns, in numbers.
 #[repr(C)]
@@ -24,8 +24,8 @@ fn groups_numbers(reading: rules::GroupsReading) -> IgbGroups
 {
     let answer = reading.answer;
     IgbGroups {
-        answer: groups_number(answer),
-        place: groups_place(answer) as u32,
+        answer: answer.number(),
+        place: answer.place() as u32,
         groups: reading.groups,
         vars: reading.vars,
         clauses: reading.clauses,

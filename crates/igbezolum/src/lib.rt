@@ -18,7 +18,7 @@ ghost use Rattle.texts.specs.Printed.{Prints};
 ghost use Rattle.rules.specs.Setup.{setup_given};
 ghost use Rattle.igbezolum.specs.Linked.{reading_numbers, report_numbers, ReadingFits, ReadsIn, RunsIn, SetsUpIn};
 
-use rules::numbers::{read_number, read_place, run_number, run_place};
+use rules::numbers::Answer;
 
 // What a reading returns, in numbers.
 #[repr(C)]
@@ -49,8 +49,8 @@ fn reading_numbers(reading: rules::Reading) -> IgbReading
 {
     let answer = reading.answer;
     IgbReading {
-        answer: read_number(answer),
-        place: read_place(answer) as u32,
+        answer: answer.number(),
+        place: answer.place() as u32,
         vars: reading.vars,
         clauses: reading.clauses,
         count: reading.entries as u32,
@@ -63,8 +63,8 @@ fn report_numbers(report: rules::Report) -> IgbReport
 {
     let answer = report.answer;
     IgbReport {
-        answer: run_number(answer),
-        place: run_place(answer) as u32,
+        answer: answer.number(),
+        place: answer.place() as u32,
         calls: report.calls,
         tries: report.tries,
         forced: report.forced,

@@ -3,7 +3,7 @@ ghost use Rattle.std.specs.Prelude.{◌≡◌};
 ghost use Rattle.texts.specs.Shorter.{shorter_given};
 ghost use Rattle.igbezolum.specs.ShorterLinked.{shorter_numbers, ShorterFits, ShortensIn};
 
-use rules::numbers::{run_number, run_place};
+use rules::numbers::Answer;
 
 // What is returned, in numbers: those of the run, and the length of the text.
 #[repr(C)]
@@ -25,8 +25,8 @@ fn shorter_numbers(report: rules::ShorterReport) -> IgbShorter
     let run = report.run;
     let answer = run.answer;
     IgbShorter {
-        answer: run_number(answer),
-        place: run_place(answer) as u32,
+        answer: answer.number(),
+        place: answer.place() as u32,
         calls: run.calls,
         tries: run.tries,
         forced: run.forced,

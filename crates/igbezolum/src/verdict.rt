@@ -4,7 +4,7 @@ ghost use Rattle.rules.specs.Numbers.{max_text, claims_place};
 ghost use Rattle.texts.specs.ClaimsReading.{claims_given};
 ghost use Rattle.igbezolum.specs.ClaimsLinked.{verdict_numbers, ChecksIn};
 
-use rules::numbers::{claims_number, claims_place};
+use rules::numbers::Answer;
 
 // What is returned, in numbers.
 #[repr(C)]
@@ -19,8 +19,8 @@ fn verdict_numbers(answer: rules::ClaimsAnswer) -> IgbVerdict
     ensures { result ≡ verdict_numbers answer }
 {
     IgbVerdict {
-        answer: claims_number(answer),
-        place: claims_place(answer) as u32,
+        answer: answer.number(),
+        place: answer.place() as u32,
     }
 }
 

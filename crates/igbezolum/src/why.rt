@@ -5,7 +5,7 @@ ghost use Rattle.rules.specs.Why.{why_place, why_given};
 ghost use Rattle.igbezolum.specs.WhyLinked.{why_numbers, ExplainsIn};
 
 use rules::Lit;
-use rules::numbers::{why_number, why_place};
+use rules::numbers::Answer;
 
 // What is returned, in numbers.
 #[repr(C)]
@@ -23,8 +23,8 @@ fn why_numbers(report: rules::WhyReport) -> IgbWhyReport
 {
     let answer = report.answer;
     IgbWhyReport {
-        answer: why_number(answer),
-        place: why_place(answer) as u32,
+        answer: answer.number(),
+        place: answer.place() as u32,
         calls: report.calls,
         tries: report.tries,
     }

@@ -4,6 +4,7 @@ ghost use Rattle.texts.specs.Printed.{refused_line, answer_line, status_words, s
 ghost use Rattle.buffers.specs.Put.{Put, Room};
 ghost use Rattle.lines.specs.Lines.{status_line, count_fields, end_fields, LinesOver};
 
+use rules::numbers::Answer;
 use buffers::put::{put_byte, put_decimal, put_field, put_word};
 
 // The line of a refusal.
@@ -51,7 +52,7 @@ pub fn put_answer(out: &mut [u8], at: usize, vars: u32, report: rules::Report) -
     ensures { Put at (answer_line vars report) out.old result out.new }
 {
     let answer = report.answer;
-    let number = rules::numbers::run_number(answer);
+    let number = answer.number();
     let behind_counts = put_counts(out, at, number, report.calls, report.tries);
     let opens = vars - report.forced - report.free;
     put_ends(out, behind_counts, report.forced, report.free, opens)

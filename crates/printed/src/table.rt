@@ -7,7 +7,7 @@ ghost use Rattle.buffers.specs.Put.{Put, Room};
 ghost use Rattle.printed.specs.Table.{is_refusal, table_of_list, ListReady, Sized, TableReady, RunPut, TextPut};
 
 use lines::line::{put_answer, put_lines, put_refused};
-use rules::numbers::{read_number, read_place, run_number, run_place};
+use rules::numbers::Answer;
 use rules::{TABLE_BUDGET, TABLE_CHUNK};
 
 // Whether a run's number is that of a refusal.
@@ -32,9 +32,9 @@ fn put_table(
     ensures { Put 0 (table_of_run vars report status.now hints.now) out.old result out.new }
 {
     let answer = report.answer;
-    let number = run_number(answer);
+    let number = answer.number();
     if is_refusal(number) {
-        let place = run_place(answer);
+        let place = answer.place();
         return put_refused(out, 0, number, place);
     }
     let next = put_answer(out, 0, vars, report);
@@ -115,12 +115,12 @@ pub fn put_text(out: &mut [u8], text: &[u8], held: &[i32], entries: &mut [i32]) 
 {
     let reading = reader::read(text, entries);
     let answer = reading.answer;
-    let number = read_number(answer);
+    let number = answer.number();
     if number == 0 {
         let n = reading.entries;
         let vars = reading.vars;
         return put_list(out, &entries[..n], vars, held);
     }
-    let place = read_place(answer);
+    let place = answer.place();
     put_refused(out, 0, number, place)
 }

@@ -2,6 +2,7 @@
 
 // The reader at its edges: docs/RULES.md, "The text" and "What comes back". A line a text: its name, number and place, V, C and the
 // entry count. `crates/reader_test/stdout` was written by hand from the page.
+use rules::numbers::Answer;
 use rules::Reading;
 use std::io;
 
@@ -16,8 +17,8 @@ fn field(rt: &impl Print, n: u64) -> io::Result<()> {
 fn write_line(rt: &impl Print, name: &[u8], r: Reading) -> io::Result<()> {
     let answer = r.answer;
     word(rt, name)?;
-    field(rt, rules::numbers::read_number(answer) as u64)?;
-    field(rt, rules::numbers::read_place(answer) as u64)?;
+    field(rt, answer.number() as u64)?;
+    field(rt, answer.place() as u64)?;
     field(rt, r.vars as u64)?;
     field(rt, r.clauses as u64)?;
     field(rt, r.entries as u64)?;

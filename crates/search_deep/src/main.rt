@@ -19,7 +19,7 @@ fn main(rt: HostRuntime) -> io::Result<()> {
     };
     let end = whole_call(none, &starts, none, 0, &mut values, meter);
     let outcome = end.outcome;
-    let number = rules::numbers::outcome_number(outcome);
+    let number = u32::from(outcome);
     let tries = end.meter.spent;
     println!(rt; "outcome {number} tries {tries}")
 }

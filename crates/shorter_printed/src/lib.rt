@@ -7,7 +7,7 @@ ghost use Rattle.texts.specs.ShorterPrinted.{PrintsShorter};
 ghost use Rattle.shorter_printed.specs.Printed.{TextPut};
 
 use lines::line::put_refused;
-use rules::numbers::{read_number, read_place};
+use rules::numbers::Answer;
 use rules::{TABLE_BUDGET, TABLE_CHUNK};
 
 // The shorter file of a text, or the line of its refusal.
@@ -19,14 +19,14 @@ fn put_text(out: &mut [u8], text: &[u8], entries: &mut [i32]) -> usize
 {
     let reading = reader::read(text, entries);
     let answer = reading.answer;
-    let number = read_number(answer);
+    let number = answer.number();
     if number == 0 {
         let n = reading.entries;
         let vars = reading.vars;
         let report = shorter::shorter(&entries[..n], vars, TABLE_BUDGET, TABLE_CHUNK, out);
         return report.length;
     }
-    let place = read_place(answer);
+    let place = answer.place();
     put_refused(out, 0, number, place)
 }
 

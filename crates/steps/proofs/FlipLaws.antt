@@ -6,12 +6,13 @@
 --   tested_at         at an index
 --   by_nothing, by_clause     what was found says whether the flip may be made
 --   Flipping, flipping_start, flipping_step, flipping_done     the loop of `flip`
+--   none_may          that no clause was found is that the flip may be made
 --   flips_open, flips_closed     what `flip_at` does at an open variable, and at another
 --
 -- Assumes nothing.
 use mathlib.Core.Path.{◌≡◌, refl, sym, ◌∙◌, ap}
 use mathlib.Core.Logic.{◌≢◌}
-use mathlib.Core.Bool.{Bool}
+use mathlib.Core.Bool.{Bool, true, false, not}
 use mathlib.Core.List.{List}
 use mathlib.Core.Option.{Option, none, some}
 use Prim.Native.Nat.{ℕ, zero, suc, pred, ◌+◌, ◌≤◌, ◌<◌}
@@ -20,7 +21,8 @@ use native.Mathlib.Numerals.{add-one}
 use lib.ListN.{length, get_or, set}
 use lib.Seq.{set-set, set-get_or}
 use Rattle.rules.specs.declared.ClauseNo.{ClauseNo}
-use Rattle.rules.specs.declared.Flip.{Flip}
+use Rattle.std.specs.declared.option.Option.{Option as Outcome}
+use Rattle.std.specs.Prelude.{Some, None, is_some}
 use Rattle.rules.specs.Meaning.{Clause, Values, first_false}
 use Rattle.rules.specs.Run.{other_byte, flipped, can_flip}
 use Rattle.rules.specs.Hints.{flip_by, flip_test, may_flip}
@@ -42,16 +44,16 @@ other_byte_high (suc (suc b)) n m = refl
 pub taken_back : (vs : Values) (i b : ℕ) → set (set vs i b) i (get_or vs i 0) ≡ vs
 taken_back vs i b = set-set vs i b (get_or vs i 0) ∙ set-get_or vs i 0
 
-pub by_nothing : (o : Option ℕ) → first_false_of o ≡ Nothing → Flip.May ≡ flip_by o
+pub by_nothing : (o : Option ℕ) → first_false_of o ≡ Nothing → None ≡ flip_by o
 by_nothing none e = refl
 by_nothing (some n) e = apart cc
 
-pub by_clause : (o : Option ℕ) (n : ClauseNo) → first_false_of o ≡ Found n → Flip.HeldBy n ≡ flip_by o
+pub by_clause : (o : Option ℕ) (n : ClauseNo) → first_false_of o ≡ Found n → Some n ≡ flip_by o
 by_clause none n e = apart cc
 by_clause (some k) n e = cc
 
 -- `byte` is the variable's, and `other` the other one
-pub flip_test_is : {F : List Clause} {m : Values} {v at other : ℕ} {r : Flip} → at + 1 ≡ v → at < length m → other ≡ other_byte (get_or m at 0)
+pub flip_test_is : {F : List Clause} {m : Values} {v at other : ℕ} {r : Outcome ClauseNo} → at + 1 ≡ v → at < length m → other ≡ other_byte (get_or m at 0)
     → r ≡ flip_by (first_false (set m at other) F) → FlipTested F v m r (set (set m at other) at (get_or m at 0))
 flip_test_is {F} {m} {v} {at} {other} {r} e h o s =
     record { result_is = s ∙ ap (λ (w : Values). flip_by (first_false w F)) (same ∙ ap (flipped m) index); model_same = taken_back m at other }
@@ -64,10 +66,16 @@ flip_test_is {F} {m} {v} {at} {other} {r} e h o s =
 
 -- ---- one index
 
-pub tested_at : {F : List Clause} (i : ℕ) {m m' : Values} {f : Flip} → FlipTested F (i + 1) m f m' → f ≡ flip_test F m i
+pub tested_at : {F : List Clause} (i : ℕ) {m m' : Values} {f : Outcome ClauseNo} → FlipTested F (i + 1) m f m' → f ≡ flip_test F m i
 tested_at {F} i {m} c = c.result_is ∙ ap (flip_test F m) (ap pred (add-one i))
 
-pub flips_open : {F : List Clause} {i d : ℕ} {m m' : Values} {f : Flip} {r : Bool} {ss ts : List ℕ} → FlipTested F (i + 1) m f m' → r ≡ may_flip f
+pub none_may : (f : Outcome ClauseNo) (r : Bool) → is_some f ≡ not r → r ≡ may_flip f
+none_may None true e = refl
+none_may None false e = apart cc
+none_may (Some n) true e = apart cc
+none_may (Some n) false e = refl
+
+pub flips_open : {F : List Clause} {i d : ℕ} {m m' : Values} {f : Outcome ClauseNo} {r : Bool} {ss ts : List ℕ} → FlipTested F (i + 1) m f m' → r ≡ may_flip f
     → DropsAt i r ss d ts → FlipsAt F i m ss d m' ts
 flips_open {F} {i} {d} {m} {m'} {f} {r} c q w =
     let e : r ≡ can_flip F m i = q ∙ ap may_flip (tested_at i c) ∙ can_flip-may_flip F m i in

@@ -13,7 +13,8 @@ use Prim.Native.Nat.{ℕ, zero, suc, pred, ◌+◌, ◌≤◌, ◌<◌}
 use native.Mathlib.Omega.{arith}
 use native.Mathlib.Numerals.{add-one}
 use lib.ListN.{length, get_or, set, replicate}
-use Rattle.rules.specs.declared.Flip.{Flip}
+use Rattle.std.specs.declared.option.Option.{Option}
+use Rattle.rules.specs.declared.ClauseNo.{ClauseNo}
 use Rattle.rules.specs.Lists.{tabled}
 use Rattle.rules.specs.Meaning.{Clause, Values, value_at, Total}
 use Rattle.rules.specs.Hints.{hint_number, hint_at}
@@ -36,7 +37,7 @@ module _ (F : List Clause) (vs : Values) (v at : ℕ) (e : at + 1 ≡ v) where
   hinted_unset z =
       record { result_is = sym (ap (λ (b : ℕ). hint_if b (hint_at F vs (pred v))) (same_byte ∙ z)); values_same = refl }
 
-  pub hinted_set : {vs' : Values} {f : Flip} {r : ℕ} → get_or vs at 0 ≢ 0 → FlipTested F v vs f vs' → r ≡ hint_number f → Hinted F v vs r vs'
+  pub hinted_set : {vs' : Values} {f : Option ClauseNo} {r : ℕ} → get_or vs at 0 ≢ 0 → FlipTested F v vs f vs' → r ≡ hint_number f → Hinted F v vs r vs'
   hinted_set n w q =
       record {
         result_is = q ∙ ap hint_number w.result_is ∙ sym (hint_if-set (get_or vs (pred v) 0) (hint_at F vs (pred v)) (λ z. n (sym same_byte ∙ z)));

@@ -1,6 +1,7 @@
 -- What flips do. Assumes nothing.
 use Rattle.std.specs.Prelude.{◌≡◌, List, ℕ, pred, ◌≤◌, ◌<◌, ℤ, length}
-use Rattle.rules.specs.declared.Flip.{Flip}
+use Rattle.std.specs.declared.option.Option.{Option}
+use Rattle.rules.specs.declared.ClauseNo.{ClauseNo}
 use Rattle.rules.specs.Meaning.{Clause, Values}
 use Rattle.rules.specs.Run.{can_flip}
 use Rattle.rules.specs.Hints.{flip_test}
@@ -8,7 +9,7 @@ use Rattle.formula.specs.Formula.{Formula}
 use Rattle.steps.specs.Filter.{DropsAt, Drops}
 
 -- what the flip test answers for a variable; the model is what it was
-pub record FlipTested (F : List Clause) (v : ℕ) (before : Values) (result : Flip) (after : Values) : Type 0 where
+pub record FlipTested (F : List Clause) (v : ℕ) (before : Values) (result : Option ClauseNo) (after : Values) : Type 0 where
   pub result_is : result ≡ flip_test F before (pred v)
   pub model_same : after ≡ before
 

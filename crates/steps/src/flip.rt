@@ -3,34 +3,24 @@
 ghost use Rattle.std.specs.Prelude.{◌≡◌, length};
 ghost use Rattle.rules.specs.Meaning.{first_false, clauses};
 ghost use Rattle.rules.specs.Run.{other_byte};
-ghost use Rattle.rules.specs.Hints.{flip_by, may_flip};
+ghost use Rattle.rules.specs.Hints.{flip_by};
 ghost use Rattle.formula.specs.Formula.{Formula};
 ghost use Rattle.steps.specs.Flip.{FlipTestOver, FlipTested, FlipAtOver, FlipsAt, FlipOver, Flips};
 
 use formula::first_false::{FirstFalse, first_false};
-use rules::Flip;
+use rules::ClauseNo;
 
 // What flipped values say: no clause is false, so that the flip may be made, or the first that is.
 // Rules out: that it may be made where only the last clause is false; the last false clause.
 // Required of: flip_test, which requires it too.
-fn flip_by(entries: &[i32], starts: &[u16], values: &[u8]) -> Flip
+fn flip_by(entries: &[i32], starts: &[u16], values: &[u8]) -> Option<ClauseNo>
     requires { Formula (length values.now) entries.now starts.now }
     ensures { result ≡ flip_by (first_false values.now (clauses entries.now)) }
 {
     let found = first_false(entries, starts, values);
     match found {
-        FirstFalse::Nothing => Flip::May,
-        FirstFalse::Clause(n) => Flip::HeldBy(n),
-    }
-}
-
-// Whether the flip may be made.
-fn may_flip(flip: Flip) -> bool
-    ensures { result ≡ may_flip flip }
-{
-    match flip {
-        Flip::May => true,
-        Flip::HeldBy(_) => false,
+        FirstFalse::Nothing => None,
+        FirstFalse::Clause(n) => Some(n),
     }
 }
 
@@ -52,7 +42,12 @@ pub fn other_byte(byte: u8) -> u8
 // makes false. The model is afterwards what it was: no flip is kept for the next.
 // Rules out: a flip that is kept; a clause that the forced literals make false.
 // Required of: flip_at and hint::hint_at, for a variable of the model.
-pub fn flip_test(entries: &[i32], starts: &[u16], model: &mut [u8], v: rules::Var) -> Flip
+pub fn flip_test(
+    entries: &[i32],
+    starts: &[u16],
+    model: &mut [u8],
+    v: rules::Var,
+) -> Option<ClauseNo>
     requires { FlipTestOver entries.now starts.now model.old v.0 }
     ensures { FlipTested (clauses entries.now) v.0 model.old result model.new }
 {
@@ -71,8 +66,7 @@ fn flip_at(entries: &[i32], starts: &[u16], model: &mut [u8], status: &mut [u8],
 {
     if status[i] == 0 {
         let flip = flip_test(entries, starts, model, rules::Var(i as u32 + 1));
-        let free = may_flip(flip);
-        crate::compare::drop_if(status, i, free)
+        crate::compare::drop_if(status, i, flip.is_none())
     } else {
         0
     }

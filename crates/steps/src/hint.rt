@@ -1,22 +1,9 @@
 // Hints (docs/RULES.md, "Which clause holds a switch"): for each variable the first clause that its flip in the first model makes false.
-ghost use Rattle.std.specs.Prelude.{◌≡◌};
 ghost use Rattle.rules.specs.Meaning.{clauses};
-ghost use Rattle.rules.specs.Hints.{hint_number};
 ghost use Rattle.steps.specs.Flip.{FlipTestOver};
 ghost use Rattle.steps.specs.Hint.{Hinted, HintsOver, HintsPut};
 
 use crate::flip::flip_test;
-use rules::Flip;
-
-// The number of the clause, 0 if there is none.
-fn hint_number(flip: Flip) -> u32
-    ensures { result ≡ hint_number flip }
-{
-    match flip {
-        Flip::May => 0,
-        Flip::HeldBy(n) => n.0,
-    }
-}
 
 // The hint of a variable in the first model; 0 where there is none, so that the variable is unset.
 fn hint_of(entries: &[i32], starts: &[u16], first: &mut [u8], v: rules::Var) -> u32
@@ -27,8 +14,10 @@ fn hint_of(entries: &[i32], starts: &[u16], first: &mut [u8], v: rules::Var) -> 
     if first[at] == 0 {
         return 0;
     }
-    let flip = flip_test(entries, starts, first, v);
-    hint_number(flip)
+    match flip_test(entries, starts, first, v) {
+        None => 0,
+        Some(n) => n.0,
+    }
 }
 
 // Puts a hint for each variable.

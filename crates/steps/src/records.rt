@@ -50,7 +50,7 @@ fn put_record(
             let r = new_record(status[i], call, other);
             let way = r.way;
             calls[i] = r.call;
-            ways[i] = rules::numbers::way_number(way);
+            ways[i] = u8::from(way);
         }
     }
 }

@@ -22,7 +22,7 @@ pub fn put_row(log: &mut [u32], calls: u32, tries: u32, row: Row)
     let at = 6 * calls as usize;
     let outcome = row.outcome;
     log[at] = calls + 1;
-    log[at + 1] = rules::numbers::outcome_number(outcome);
+    log[at + 1] = u32::from(outcome);
     log[at + 2] = row.chunk;
     log[at + 3] = row.by_compare;
     log[at + 4] = row.by_flip;

@@ -12,7 +12,7 @@ use crate::clauses::put_reason;
 use crate::line::put_first;
 use lines::line::put_refused;
 use lines::model::put_model;
-use rules::numbers::{read_number, read_place, refusal_number, refusal_place};
+use rules::numbers::Answer;
 use rules::{Lit, WHY_BUDGET, WhyAnswer, WhyReport};
 
 // After 0: the clauses that are kept, with room for the starts of all.
@@ -58,8 +58,8 @@ fn put_answer(
         WhyAnswer::Stopped => put_first(out, 0, report, 0),
         WhyAnswer::NotForced => put_false(out, report, values),
         WhyAnswer::Refused(refusal) => {
-            let number = refusal_number(refusal);
-            let place = refusal_place(refusal);
+            let number = refusal.number();
+            let place = refusal.place();
             put_refused(out, 0, number, place)
         }
     }
@@ -106,12 +106,12 @@ pub fn put_text(out: &mut [u8], text: &[u8], literal: Lit, entries: &mut [i32]) 
 {
     let reading = reader::read(text, entries);
     let answer = reading.answer;
-    let number = read_number(answer);
+    let number = answer.number();
     if number == 0 {
         let n = reading.entries;
         let vars = reading.vars;
         return put_list(out, &entries[..n], vars, literal);
     }
-    let place = read_place(answer);
+    let place = answer.place();
     put_refused(out, 0, number, place)
 }

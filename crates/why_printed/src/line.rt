@@ -6,7 +6,7 @@ ghost use Rattle.buffers.specs.Put.{Put, Room};
 use buffers::put::{put_byte, put_field, put_signed};
 use formula::lit::{sign, var_of};
 use lines::line::put_counts;
-use rules::numbers::why_number;
+use rules::numbers::Answer;
 use rules::{ClauseNo, Lit};
 
 // The first line: the returned numbers, and how many clauses are kept.
@@ -17,7 +17,7 @@ pub fn put_first(out: &mut [u8], at: usize, report: rules::WhyReport, kept: usiz
     ensures { Put at (why_line report kept) out.old result out.new }
 {
     let answer = report.answer;
-    let number = why_number(answer);
+    let number = answer.number();
     let behind_counts = put_counts(out, at, number, report.calls, report.tries);
     let behind_kept = put_field(out, behind_counts, b" kept ", kept);
     put_byte(out, behind_kept, 10)

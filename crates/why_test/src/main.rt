@@ -3,7 +3,7 @@
 // Why a literal is forced, on small formulas, and what is refused (docs/RULES.md, "Why"). A line a question: its name, number and place,
 // calls, tries, the first four marks, the 1,024th and what stands behind it, and the first four values. All were 7 before.
 // `crates/why_test/stdout` was written by hand from the page.
-use rules::numbers::{why_number, why_place};
+use rules::numbers::Answer;
 use rules::{Lit, WhyReport};
 use std::io;
 
@@ -41,8 +41,8 @@ fn show_first(rt: &impl Print, bytes: &[u8]) -> io::Result<()> {
 fn show_report(rt: &impl Print, name: &[u8], r: WhyReport) -> io::Result<()> {
     let answer = r.answer;
     word(rt, name)?;
-    field(rt, why_number(answer) as u64)?;
-    field(rt, why_place(answer) as u64)?;
+    field(rt, answer.number() as u64)?;
+    field(rt, answer.place() as u64)?;
     field(rt, r.calls as u64)?;
     field(rt, r.tries as u64)?;
     Ok(())

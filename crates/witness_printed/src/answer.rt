@@ -9,7 +9,7 @@ ghost use Rattle.witness_printed.specs.Pair.{AnswerReady, AnswerPut, ListReady, 
 
 use crate::pair::put_pair;
 use lines::line::put_refused;
-use rules::numbers::{read_number, read_place, refusal_number, refusal_place};
+use rules::numbers::Answer;
 use rules::{Report, RunAnswer, TABLE_BUDGET, TABLE_CHUNK};
 
 // What is printed for an answer: the refusal alone if it is one, else both models.
@@ -32,8 +32,8 @@ fn put_answer(
         RunAnswer::NoModel => put_pair(out, first, witness, bits),
         RunAnswer::Stopped => put_pair(out, first, witness, bits),
         RunAnswer::Refused(refusal) => {
-            let number = refusal_number(refusal);
-            let place = refusal_place(refusal);
+            let number = refusal.number();
+            let place = refusal.place();
             put_refused(out, 0, number, place)
         }
     }
@@ -99,12 +99,12 @@ pub fn put_text(out: &mut [u8], text: &[u8], variable: u32, entries: &mut [i32])
 {
     let reading = reader::read(text, entries);
     let answer = reading.answer;
-    let number = read_number(answer);
+    let number = answer.number();
     if number == 0 {
         let n = reading.entries;
         let vars = reading.vars;
         return put_list(out, &entries[..n], vars, variable);
     }
-    let place = read_place(answer);
+    let place = answer.place();
     put_refused(out, 0, number, place)
 }

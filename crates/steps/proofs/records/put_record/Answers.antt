@@ -6,7 +6,7 @@ pub returns-then-ways-i-eq0 : goal.returns-then-ways-i-eq0
 returns-then-ways-i-eq0 c =
     let a = c.args in
     puts_new a.i a.call a.first.now a.model.now a.status.now a.calls.now a.ways.now c.requires.in_first c.requires.in_model
-    c.if-status-i-ne0.true c.if-ways-i-eq0.true c.new_record-r.ensures c.way_number.ensures
+    c.if-status-i-ne0.true c.if-ways-i-eq0.true c.new_record-r.ensures c.from.ensures
 
 pub returns-else-ways-i-eq0 : goal.returns-else-ways-i-eq0
 returns-else-ways-i-eq0 c =

@@ -26,4 +26,4 @@ bounds-log-at-6 c =
 
 pub returns : goal.returns
 returns c =
-    rw c.outcome_number.ensures (simp (add-one, add-two, add-three, add-four, add_five))
+    rw c.from.ensures (simp (add-one, add-two, add-three, add-four, add_five))
