@@ -8,23 +8,23 @@ use Rattle.shorter.proofs.put_answer.Goals as goal
 pub put_empty-requires : goal.put_empty-requires
 put_empty-requires c =
     let none : run_number c.args.report.answer ≡ 20 =
-    sym c.run_number-number.ensures ∙ c.if-number-eq20.true in
+    sym c.number-number.ensures ∙ c.if-number-eq20.true in
     room_same (empty_text c.requires none) c.requires.room
 
 pub returns-then-number-eq20 : goal.returns-then-number-eq20
 returns-then-number-eq20 c =
     let none : run_number c.args.report.answer ≡ 20 =
-    sym c.run_number-number.ensures ∙ c.if-number-eq20.true in
+    sym c.number-number.ensures ∙ c.if-number-eq20.true in
     put_same (sym (empty_text c.requires none)) c.put_empty.ensures
 
 pub put_settled-requires : goal.put_settled-requires
 put_settled-requires c =
     let other : run_number c.args.report.answer ≡ 20 → ⊥ =
-    λ e. c.if-number-eq20.false (c.run_number-number.ensures ∙ e) in
+    λ e. c.if-number-eq20.false (c.number-number.ensures ∙ e) in
     settled_over c.requires other
 
 pub returns : goal.returns
 returns c =
     let other : run_number c.args.report.answer ≡ 20 → ⊥ =
-    λ e. c.if-number-eq20.false (c.run_number-number.ensures ∙ e) in
+    λ e. c.if-number-eq20.false (c.number-number.ensures ∙ e) in
     put_same (sym (folded_text_lem c.requires other)) c.put_settled.ensures

@@ -12,19 +12,19 @@ use Rattle.shorter_printed.proofs.put_text.Goals as goal
 pub slice_bounds-shorter-end : goal.slice_bounds-shorter-end
 slice_bounds-shorter-end c =
     let zero : read_number c.read-reading.result.answer ≡ 0 =
-    sym c.read_number-number.ensures ∙ c.if-number-eq0.true in
+    sym c.number-number.ensures ∙ c.if-number-eq0.true in
     counted c.read-reading.ensures c.requires.1 zero
 
 pub slice_bounds-shorter-end-then-number-eq0 : goal.slice_bounds-shorter-end-then-number-eq0
 slice_bounds-shorter-end-then-number-eq0 c =
     let zero : read_number c.read-reading.result.answer ≡ 0 =
-    sym c.read_number-number.ensures ∙ c.if-number-eq0.true in
+    sym c.number-number.ensures ∙ c.if-number-eq0.true in
     sym (length-take-le _ _ (counted c.read-reading.ensures c.requires.1 zero))
 
 pub returns-then-number-eq0 : goal.returns-then-number-eq0
 returns-then-number-eq0 c =
     let zero : read_number c.read-reading.result.answer ≡ 0 =
-    sym c.read_number-number.ensures ∙ c.if-number-eq0.true in
+    sym c.number-number.ensures ∙ c.if-number-eq0.true in
     record {
       put = put_shorter c.read-reading.ensures c.requires.1 zero c.requires.0 c.shorter-report.ensures;
       entries_are = c.read-reading.ensures.after_is;
@@ -32,18 +32,18 @@ returns-then-number-eq0 c =
 
 pub put_refused-requires : goal.put_refused-requires
 put_refused-requires c =
-    let line : refused_line c.read_number-number.result c.read_place-place.result ≡ shorter_text_of c.args.text.now =
-    ap (λ (n : ℕ). refused_line n c.read_place-place.result) c.read_number-number.ensures ∙
-    ap (λ (n : ℕ). refused_line (read_number c.read-reading.result.answer) n) c.read_place-place.ensures ∙
-    sym (put_line c.read-reading.ensures c.requires.1 (λ e. c.if-number-eq0.false (c.read_number-number.ensures ∙ e))) in
+    let line : refused_line c.number-number.result c.place-place.result ≡ shorter_text_of c.args.text.now =
+    ap (λ (n : ℕ). refused_line n c.place-place.result) c.number-number.ensures ∙
+    ap (λ (n : ℕ). refused_line (read_number c.read-reading.result.answer) n) c.place-place.ensures ∙
+    sym (put_line c.read-reading.ensures c.requires.1 (λ e. c.if-number-eq0.false (c.number-number.ensures ∙ e))) in
     room_same (sym line) (line_room c.args.text.now c.args.out.now c.requires.0)
 
 pub returns : goal.returns
 returns c =
-    let line : refused_line c.read_number-number.result c.read_place-place.result ≡ shorter_text_of c.args.text.now =
-    ap (λ (n : ℕ). refused_line n c.read_place-place.result) c.read_number-number.ensures ∙
-    ap (λ (n : ℕ). refused_line (read_number c.read-reading.result.answer) n) c.read_place-place.ensures ∙
-    sym (put_line c.read-reading.ensures c.requires.1 (λ e. c.if-number-eq0.false (c.read_number-number.ensures ∙ e))) in
+    let line : refused_line c.number-number.result c.place-place.result ≡ shorter_text_of c.args.text.now =
+    ap (λ (n : ℕ). refused_line n c.place-place.result) c.number-number.ensures ∙
+    ap (λ (n : ℕ). refused_line (read_number c.read-reading.result.answer) n) c.place-place.ensures ∙
+    sym (put_line c.read-reading.ensures c.requires.1 (λ e. c.if-number-eq0.false (c.number-number.ensures ∙ e))) in
     record {
       put = put_same line c.put_refused.ensures;
       entries_are = c.read-reading.ensures.after_is;

@@ -14,19 +14,19 @@ use Rattle.claims_printed.proofs.verdict.put_text.Goals as goal
 pub slice_bounds-check_claims-end : goal.slice_bounds-check_claims-end
 slice_bounds-check_claims-end c =
     let listed : ReadList c.args.text.now c.read-reading.result c.read-reading.new.entries =
-    read_list c.read-reading.ensures c.requires.1 (sym c.read_number-number.ensures ∙ c.if-number-eq0.true) in
+    read_list c.read-reading.ensures c.requires.1 (sym c.number-number.ensures ∙ c.if-number-eq0.true) in
     listed.counted
 
 pub slice_bounds-check_claims-end-then-number-eq0 : goal.slice_bounds-check_claims-end-then-number-eq0
 slice_bounds-check_claims-end-then-number-eq0 c =
     let listed : ReadList c.args.text.now c.read-reading.result c.read-reading.new.entries =
-    read_list c.read-reading.ensures c.requires.1 (sym c.read_number-number.ensures ∙ c.if-number-eq0.true) in
+    read_list c.read-reading.ensures c.requires.1 (sym c.number-number.ensures ∙ c.if-number-eq0.true) in
     sym (length-take-le _ _ listed.counted)
 
 pub put_verdict-requires : goal.put_verdict-requires
 put_verdict-requires c =
     let listed : ReadList c.args.text.now c.read-reading.result c.read-reading.new.entries =
-    read_list c.read-reading.ensures c.requires.1 (sym c.read_number-number.ensures ∙ c.if-number-eq0.true) in
+    read_list c.read-reading.ensures c.requires.1 (sym c.number-number.ensures ∙ c.if-number-eq0.true) in
     let verdict : claims_text_of c.args.text.now c.args.claims.now ≡ claims_line c.check_claims-verdict.result =
     list_text c.args.claims.now listed ∙ ap claims_line (sym c.check_claims-verdict.ensures.result_is) in
     room_same verdict c.requires.0
@@ -34,29 +34,29 @@ put_verdict-requires c =
 pub returns-then-number-eq0 : goal.returns-then-number-eq0
 returns-then-number-eq0 c =
     let listed : ReadList c.args.text.now c.read-reading.result c.read-reading.new.entries =
-    read_list c.read-reading.ensures c.requires.1 (sym c.read_number-number.ensures ∙ c.if-number-eq0.true) in
+    read_list c.read-reading.ensures c.requires.1 (sym c.number-number.ensures ∙ c.if-number-eq0.true) in
     let verdict : claims_text_of c.args.text.now c.args.claims.now ≡ claims_line c.check_claims-verdict.result =
     list_text c.args.claims.now listed ∙ ap claims_line (sym c.check_claims-verdict.ensures.result_is) in
     record { put = put_same (sym verdict) c.put_verdict.ensures; entries_are = c.read-reading.ensures.after_is }
 
 pub put_refused-requires : goal.put_refused-requires
 put_refused-requires c =
-    let line : refused_line c.read_number-number.result c.read_place-place.result ≡ claims_text_of c.args.text.now c.args.claims.now =
-    ap (λ (n : ℕ). refused_line n c.read_place-place.result) c.read_number-number.ensures ∙
-    ap (λ (n : ℕ). refused_line (read_number c.read-reading.result.answer) n) c.read_place-place.ensures ∙
+    let line : refused_line c.number-number.result c.place-place.result ≡ claims_text_of c.args.text.now c.args.claims.now =
+    ap (λ (n : ℕ). refused_line n c.place-place.result) c.number-number.ensures ∙
+    ap (λ (n : ℕ). refused_line (read_number c.read-reading.result.answer) n) c.place-place.ensures ∙
     sym
     (refused_text c.args.text.now c.args.claims.now
-    (read_refused c.read-reading.ensures c.requires.1 (λ e. omega (arith, c.read_number-number.ensures, c.if-number-eq0.false, e)))) in
+    (read_refused c.read-reading.ensures c.requires.1 (λ e. omega (arith, c.number-number.ensures, c.if-number-eq0.false, e)))) in
     room_same (sym line) c.requires.0
 
 pub returns : goal.returns
 returns c =
-    let line : refused_line c.read_number-number.result c.read_place-place.result ≡ claims_text_of c.args.text.now c.args.claims.now =
-    ap (λ (n : ℕ). refused_line n c.read_place-place.result) c.read_number-number.ensures ∙
-    ap (λ (n : ℕ). refused_line (read_number c.read-reading.result.answer) n) c.read_place-place.ensures ∙
+    let line : refused_line c.number-number.result c.place-place.result ≡ claims_text_of c.args.text.now c.args.claims.now =
+    ap (λ (n : ℕ). refused_line n c.place-place.result) c.number-number.ensures ∙
+    ap (λ (n : ℕ). refused_line (read_number c.read-reading.result.answer) n) c.place-place.ensures ∙
     sym
     (refused_text c.args.text.now c.args.claims.now
-    (read_refused c.read-reading.ensures c.requires.1 (λ e. omega (arith, c.read_number-number.ensures, c.if-number-eq0.false, e)))) in
+    (read_refused c.read-reading.ensures c.requires.1 (λ e. omega (arith, c.number-number.ensures, c.if-number-eq0.false, e)))) in
     record {
       put = put_same line c.put_refused.ensures;
       entries_are = c.read-reading.ensures.after_is;

@@ -18,7 +18,7 @@ returns-then-number-eq20 c =
     let a = c.args in
     put_same
     (ap (λ (v : ℕ). answer_line v a.report) c.requires.vars_are ∙
-    sym (table_first a.sizes.now a.report a.status.now a.report.answer c.requires.ran (sym c.run_number-number.ensures ∙ c.if-number-eq20.true)))
+    sym (table_first a.sizes.now a.report a.status.now a.report.answer c.requires.ran (sym c.number-number.ensures ∙ c.if-number-eq20.true)))
     c.put_answer-next.ensures
 
 pub put_groups-requires : goal.put_groups-requires
@@ -27,7 +27,7 @@ put_groups-requires c =
     groups_table_of_run a.sizes.now a.report a.status.now ≡ answer_line a.vars a.report ++ group_lines 1 a.sizes.now a.status.now =
     let a = c.args in
     table_lines a.sizes.now a.report a.status.now a.report.answer c.requires.ran
-    (λ e. omega (arith, c.run_number-number.ensures, c.if-number-eq20.false, e)) ∙
+    (λ e. omega (arith, c.number-number.ensures, c.if-number-eq20.false, e)) ∙
     ap (λ (v : ℕ). answer_line v a.report ++ group_lines 1 a.sizes.now a.status.now) (sym c.requires.vars_are) in
     let a = c.args in
     record {
@@ -45,6 +45,6 @@ returns c =
     groups_table_of_run a.sizes.now a.report a.status.now ≡ answer_line a.vars a.report ++ group_lines 1 a.sizes.now a.status.now =
     let a = c.args in
     table_lines a.sizes.now a.report a.status.now a.report.answer c.requires.ran
-    (λ e. omega (arith, c.run_number-number.ensures, c.if-number-eq20.false, e)) ∙
+    (λ e. omega (arith, c.number-number.ensures, c.if-number-eq20.false, e)) ∙
     ap (λ (v : ℕ). answer_line v a.report ++ group_lines 1 a.sizes.now a.status.now) (sym c.requires.vars_are) in
     put_same (sym whole) (put_then c.put_answer-next.ensures c.put_groups.ensures)

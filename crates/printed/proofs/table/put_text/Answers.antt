@@ -24,22 +24,22 @@ put_list-requires c =
 
 pub put_refused-requires : goal.put_refused-requires
 put_refused-requires c =
-    let line : refused_line c.read_number-number.result c.read_place-place.result ≡ table_of c.args.text.now c.args.held.now =
-    ap (λ (n : ℕ). refused_line n c.read_place-place.result) c.read_number-number.ensures ∙
-    ap (λ (n : ℕ). refused_line (read_number c.read-reading.result.answer) n) c.read_place-place.ensures ∙
+    let line : refused_line c.number-number.result c.place-place.result ≡ table_of c.args.text.now c.args.held.now =
+    ap (λ (n : ℕ). refused_line n c.place-place.result) c.number-number.ensures ∙
+    ap (λ (n : ℕ). refused_line (read_number c.read-reading.result.answer) n) c.place-place.ensures ∙
     sym
     (read_line c.read-reading.ensures c.requires.1 c.args.held.now
-    (λ e. omega (arith, c.read_number-number.ensures, e))) in
+    (λ e. omega (arith, c.number-number.ensures, e))) in
     room_same (sym line) c.requires.0
 
 pub returns : goal.returns
 returns c =
-    let line : refused_line c.read_number-number.result c.read_place-place.result ≡ table_of c.args.text.now c.args.held.now =
-    ap (λ (n : ℕ). refused_line n c.read_place-place.result) c.read_number-number.ensures ∙
-    ap (λ (n : ℕ). refused_line (read_number c.read-reading.result.answer) n) c.read_place-place.ensures ∙
+    let line : refused_line c.number-number.result c.place-place.result ≡ table_of c.args.text.now c.args.held.now =
+    ap (λ (n : ℕ). refused_line n c.place-place.result) c.number-number.ensures ∙
+    ap (λ (n : ℕ). refused_line (read_number c.read-reading.result.answer) n) c.place-place.ensures ∙
     sym
     (read_line c.read-reading.ensures c.requires.1 c.args.held.now
-    (λ e. omega (arith, c.read_number-number.ensures, e))) in
+    (λ e. omega (arith, c.number-number.ensures, e))) in
     record {
       put = put_same line c.put_refused.ensures;
       entries_are = c.read-reading.ensures.after_is;

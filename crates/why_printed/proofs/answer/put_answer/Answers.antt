@@ -52,10 +52,10 @@ pub put_refused-requires : goal.put_refused-requires
 put_refused-requires c =
     let by : WhyAnswer → List ℕ =
     λ a. let x = c.args in why_text_by a x.report (clauses x.entries.now) x.marks.now x.values.now in
-    let line : refused_line c.refusal_number-number.result c.refusal_place-place.result ≡ by c.args.report.answer =
+    let line : refused_line c.number-number.result c.place-place.result ≡ by c.args.report.answer =
     let a = c.in-Refused.refusal in
-    ap (λ (n : ℕ). refused_line n c.refusal_place-place.result) c.refusal_number-number.ensures ∙
-    ap (λ (n : ℕ). refused_line (refusal_number a) n) c.refusal_place-place.ensures ∙
+    ap (λ (n : ℕ). refused_line n c.place-place.result) c.number-number.ensures ∙
+    ap (λ (n : ℕ). refused_line (refusal_number a) n) c.place-place.ensures ∙
     sym (ap by c.in-Refused.is) in
     room_same (sym line) c.requires.room
 
@@ -87,9 +87,9 @@ pub returns-in-Refused : goal.returns-in-Refused
 returns-in-Refused c =
     let by : WhyAnswer → List ℕ =
     λ a. let x = c.args in why_text_by a x.report (clauses x.entries.now) x.marks.now x.values.now in
-    let line : refused_line c.refusal_number-number.result c.refusal_place-place.result ≡ by c.args.report.answer =
+    let line : refused_line c.number-number.result c.place-place.result ≡ by c.args.report.answer =
     let a = c.in-Refused.refusal in
-    ap (λ (n : ℕ). refused_line n c.refusal_place-place.result) c.refusal_number-number.ensures ∙
-    ap (λ (n : ℕ). refused_line (refusal_number a) n) c.refusal_place-place.ensures ∙
+    ap (λ (n : ℕ). refused_line n c.place-place.result) c.number-number.ensures ∙
+    ap (λ (n : ℕ). refused_line (refusal_number a) n) c.place-place.ensures ∙
     sym (ap by c.in-Refused.is) in
     put_same line c.put_refused.ensures

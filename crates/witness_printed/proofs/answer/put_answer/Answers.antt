@@ -58,9 +58,9 @@ pub put_refused-requires : goal.put_refused-requires
 put_refused-requires c =
     let by : RunAnswer → List ℕ =
     λ a. text_by a c.args.first.now c.args.witness.now in
-    let line : refused_line c.refusal_number-number.result c.refusal_place-place.result ≡ by c.args.report.answer =
-    ap (λ (n : ℕ). refused_line n c.refusal_place-place.result) c.refusal_number-number.ensures ∙
-    ap (λ (n : ℕ). refused_line (refusal_number c.in-Refused.refusal) n) c.refusal_place-place.ensures ∙
+    let line : refused_line c.number-number.result c.place-place.result ≡ by c.args.report.answer =
+    ap (λ (n : ℕ). refused_line n c.place-place.result) c.number-number.ensures ∙
+    ap (λ (n : ℕ). refused_line (refusal_number c.in-Refused.refusal) n) c.place-place.ensures ∙
     sym (ap by c.in-Refused.is) in
     room_same (sym line) c.requires.room
 
@@ -106,9 +106,9 @@ returns-in-Refused c =
     λ a. text_by a c.args.first.now c.args.witness.now in
     let bits_by_lem : RunAnswer → List ℕ =
     λ a. bits_by a c.args.witness.now c.args.bits.now in
-    let line : refused_line c.refusal_number-number.result c.refusal_place-place.result ≡ by c.args.report.answer =
-    ap (λ (n : ℕ). refused_line n c.refusal_place-place.result) c.refusal_number-number.ensures ∙
-    ap (λ (n : ℕ). refused_line (refusal_number c.in-Refused.refusal) n) c.refusal_place-place.ensures ∙
+    let line : refused_line c.number-number.result c.place-place.result ≡ by c.args.report.answer =
+    ap (λ (n : ℕ). refused_line n c.place-place.result) c.number-number.ensures ∙
+    ap (λ (n : ℕ). refused_line (refusal_number c.in-Refused.refusal) n) c.place-place.ensures ∙
     sym (ap by c.in-Refused.is) in
     record {
       put = put_same line c.put_refused.ensures;
