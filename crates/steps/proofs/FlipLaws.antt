@@ -24,7 +24,7 @@ use Rattle.rules.specs.declared.Flip.{Flip}
 use Rattle.rules.specs.Meaning.{Clause, Values, first_false}
 use Rattle.rules.specs.Run.{other_byte, flipped, can_flip}
 use Rattle.rules.specs.Hints.{flip_by, flip_test, may_flip}
-use Rattle.formula.specs.declared.first_false.FirstFalse.TheVariants.{Nothing, Clause as Found}
+use Rattle.std.specs.Prelude.{Some, None}
 use Rattle.formula.specs.Formula.{first_false_of}
 use Rattle.steps.specs.Filter.{DropsAt}
 use Rattle.steps.specs.Flip.{FlipTested, FlipsAt, Flips}
@@ -42,11 +42,11 @@ other_byte_high (suc (suc b)) n m = refl
 pub taken_back : (vs : Values) (i b : ℕ) → set (set vs i b) i (get_or vs i 0) ≡ vs
 taken_back vs i b = set-set vs i b (get_or vs i 0) ∙ set-get_or vs i 0
 
-pub by_nothing : (o : Option ℕ) → first_false_of o ≡ Nothing → Flip.May ≡ flip_by o
+pub by_nothing : (o : Option ℕ) → first_false_of o ≡ None → Flip.May ≡ flip_by o
 by_nothing none e = refl
 by_nothing (some n) e = apart cc
 
-pub by_clause : (o : Option ℕ) (n : ClauseNo) → first_false_of o ≡ Found n → Flip.HeldBy n ≡ flip_by o
+pub by_clause : (o : Option ℕ) (n : ClauseNo) → first_false_of o ≡ Some n → Flip.HeldBy n ≡ flip_by o
 by_clause none n e = apart cc
 by_clause (some k) n e = cc
 

@@ -7,7 +7,7 @@ ghost use Rattle.rules.specs.Hints.{flip_by, may_flip};
 ghost use Rattle.formula.specs.Formula.{Formula};
 ghost use Rattle.steps.specs.Flip.{FlipTestOver, FlipTested, FlipAtOver, FlipsAt, FlipOver, Flips};
 
-use formula::first_false::{FirstFalse, first_false};
+use formula::first_false::first_false;
 use rules::Flip;
 
 // What flipped values say: no clause is false, so that the flip may be made, or the first that is.
@@ -17,10 +17,9 @@ fn flip_by(entries: &[i32], starts: &[u16], values: &[u8]) -> Flip
     requires { Formula (length values.now) entries.now starts.now }
     ensures { result ≡ flip_by (first_false values.now (clauses entries.now)) }
 {
-    let found = first_false(entries, starts, values);
-    match found {
-        FirstFalse::Nothing => Flip::May,
-        FirstFalse::Clause(n) => Flip::HeldBy(n),
+    match first_false(entries, starts, values) {
+        None => Flip::May,
+        Some(n) => Flip::HeldBy(n),
     }
 }
 
