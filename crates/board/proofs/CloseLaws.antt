@@ -20,8 +20,7 @@ use Rattle.rules.specs.Rounds.{one_more, rounds}
 use Rattle.rules.proofs.ClosingLaws.{Went, round_after, closing-next}
 use Rattle.rules.proofs.RoundsLaws.{rounds-next}
 use Rattle.formula.specs.Starts.{clauses_with, call_clauses}
-use Rattle.board.specs.declared.round.RoundEnd.{RoundEnd}
-use Rattle.board.specs.declared.round.RoundEnd.TheVariants.{AtFalse, UnderWay}
+use Rattle.std.specs.Prelude.{Option, Some, None}
 use Rattle.board.specs.declared.close.Closing.TheVariants.{Clash, Closed}
 use Rattle.board.specs.Boards.{Shows}
 use Rattle.board.specs.Trails.{Leads}
@@ -64,13 +63,13 @@ module _ {es : List ℤ} {starts : List ℕ} {con : Clause} {lists holders marks
     pub closings_few : n + 1 < 2 ^ 32
     closings_few = omega (arith, w.few, a.shows.counted, a.shows.small.vars_fit)
 
-    module _ {r : RoundEnd} {vs2 : Values} {keys2 hot2 trail2 : List ℕ} (d : RoundDone es con lists holders marks vs trail total r vs2 keys2 hot2 trail2) where
+    module _ {r : Option ℕ} {vs2 : Values} {keys2 hot2 trail2 : List ℕ} (d : RoundDone es con lists holders marks vs trail total r vs2 keys2 hot2 trail2) where
       abbrev F : List Clause
       F = call_clauses es con total
 
       -- a round, and what closing and the count make of its end
-      ended : {q : RoundEnd} → r ≡ q → round F (under_way vs 0) ≡ round_of q vs2
-      ended e = d.round_is ∙ ap (λ (x : RoundEnd). round_of x vs2) e
+      ended : {q : Option ℕ} → r ≡ q → round F (under_way vs 0) ≡ round_of q vs2
+      ended e = d.round_is ∙ ap (λ (x : Option ℕ). round_of x vs2) e
 
       after_round : {q : Round} → round F (under_way vs 0) ≡ q → closing F from ≡ again q (λ ws. closing F ws)
       after_round e = sym w.same ∙ closing-next F vs ∙ ap (λ (x : Round). again x (λ ws. closing F ws)) e
@@ -81,23 +80,23 @@ module _ {es : List ℤ} {starts : List ℕ} {con : Clause} {lists holders marks
       leads_on : Leads trail-from from trail2 vs2
       leads_on = leads_trans w.leads d.leads
 
-      pub closings_false : r ≡ AtFalse → CloseDone es con lists holders marks from trail-from total (Clash (n + 1)) vs2 keys2 hot2 trail2
+      pub closings_false : r ≡ None → CloseDone es con lists holders marks from trail-from total (Clash (n + 1)) vs2 keys2 hot2 trail2
       closings_false e =
           record { end_is = after_round (ended e); rounds_are = count_round (ended e); shows = d.shows; leads = leads_on }
 
-      pub closings_still : (k : ℕ) → r ≡ UnderWay k → k ≡ 0 → CloseDone es con lists holders marks from trail-from total (Closed (n + 1)) vs2 keys2 hot2 trail2
+      pub closings_still : (k : ℕ) → r ≡ Some k → k ≡ 0 → CloseDone es con lists holders marks from trail-from total (Closed (n + 1)) vs2 keys2 hot2 trail2
       closings_still zero e z =
           record { end_is = after_round (ended e); rounds_are = count_round (ended e); shows = d.shows; leads = leads_on }
       closings_still (suc k) e z = absurd (omega arith)
 
-      went : {k : ℕ} → r ≡ UnderWay k → Went F vs 0 vs2 k
+      went : {k : ℕ} → r ≡ Some k → Went F vs 0 vs2 k
       went e = rw (ended e) at (round_after F vs 0)
 
-      pub closings_falls : (k : ℕ) → r ≡ UnderWay k → k ≢ 0 → unsets vs2 < unsets vs
+      pub closings_falls : (k : ℕ) → r ≡ Some k → k ≢ 0 → unsets vs2 < unsets vs
       closings_falls zero e z = absurd (z refl)
       closings_falls (suc k) e z = omega (arith, (went e).counted)
 
-      pub closings_again : (k : ℕ) → r ≡ UnderWay k → k ≢ 0 → length keys2 ≡ length keys → length hot2 ≡ length hot → length trail2 ≡ length trail
+      pub closings_again : (k : ℕ) → r ≡ Some k → k ≢ 0 → length keys2 ≡ length keys → length hot2 ≡ length hot → length trail2 ≡ length trail
           → Closings es con lists holders marks from keys_from hot-from trail-from total (n + 1) vs2 keys2 hot2 trail2
       closings_again zero e z p q s = absurd (z refl)
       closings_again (suc k) e z p q s =

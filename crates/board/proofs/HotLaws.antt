@@ -26,7 +26,7 @@ use Rattle.rules.specs.Closing.{literal, state_of, under_way, met, round}
 use Rattle.rules.proofs.ListLaws.{apart, not-true, any_sound, any_complete, none_of_any, keep_sound, keep_complete, eqz_refl, eqz_other}
 use Rattle.rules.proofs.StateLaws.{Means, means, Calm}
 use Rattle.formula.specs.Clauses.{first_in, first_unset}
-use Rattle.formula.specs.declared.unset.Found.TheVariants.{Nothing, Literal}
+use Rattle.std.specs.Prelude.{Some, None}
 use Rattle.board.specs.Keys.{holds, distinct, true_count, unset_count, key_of}
 use Rattle.board.specs.Blocks.{is_hot}
 use Rattle.board.proofs.KeyLaws.{count_more, count_none}
@@ -104,14 +104,14 @@ module _ (vs : Values) (cl : Clause) where
       go Undecided m = absurd (omega (arith, unset_pos m.one m.one_in m.one_unset))
 
   -- the first unset literal is an unset one of the clause
-  first_is : (l : Lit) → first_unset vs cl ≡ Literal l → In l.0 cl × (is_unset vs l.0 ≡ true)
+  first_is : (l : Lit) → first_unset vs cl ≡ Some l → In l.0 cl × (is_unset vs l.0 ≡ true)
   first_is l e = go (keep (is_unset vs) cl) e (λ k i. keep_sound (is_unset vs) cl i)
     where
-      go : (us : List ℤ) → first_in us ≡ Literal l → ((k : ℤ) → In k us → In k cl × (is_unset vs k ≡ true)) → In l.0 cl × (is_unset vs l.0 ≡ true)
+      go : (us : List ℤ) → first_in us ≡ Some l → ((k : ℤ) → In k us → In k cl × (is_unset vs k ≡ true)) → In l.0 cl × (is_unset vs l.0 ≡ true)
       go [] e h = apart cc
       go (k ∷ us) e h = let t : l.0 ≡ k = cc in rw t (h k (Memᴰ.head refl))
 
-  pub hot_unit : 1 ≡ key_of vs cl → (l : Lit) → first_unset vs cl ≡ Literal l → state_of vs cl ≡ Unit l
+  pub hot_unit : 1 ≡ key_of vs cl → (l : Lit) → first_unset vs cl ≡ Some l → state_of vs cl ≡ Unit l
   unfolding key_of
   hot_unit e l f = go (state_of vs cl) (means vs cl)
     where
@@ -121,14 +121,14 @@ module _ (vs : Values) (cl : Clause) where
       go True m = absurd (omega (arith, true_pos m))
       go Undecided m = absurd (omega (arith, unset_two m.one m.two m.one_in m.two_in m.one_unset m.two_unset m.differ))
 
-  pub hot_some : 1 ≡ key_of vs cl → first_unset vs cl ≡ Nothing → ⊥
+  pub hot_some : 1 ≡ key_of vs cl → first_unset vs cl ≡ None → ⊥
   unfolding key_of
   hot_some e f = go (state_of vs cl) (means vs cl)
     where
       some : (k : ℤ) → In k cl → is_unset vs k ≡ true → ⊥
       some k i u = at (keep (is_unset vs) cl) f (keep_complete (is_unset vs) i u)
         where
-          at : (us : List ℤ) → first_in us ≡ Nothing → In k us → ⊥
+          at : (us : List ℤ) → first_in us ≡ None → In k us → ⊥
           at [] e j = Memᴰ.not-nil j
           at (x ∷ us) e j = apart cc
 

@@ -27,7 +27,7 @@ use Rattle.rules.proofs.ListLaws.{in_get_d}
 use Rattle.rules.proofs.StateLaws.{Means, means}
 use Rattle.formula.specs.Clauses.{ClauseUpTo, first_unset}
 use Rattle.formula.specs.Starts.{clauses_with, clause_at, call_clauses}
-use Rattle.formula.specs.declared.unset.Found.TheVariants.{Nothing, Literal}
+use Rattle.std.specs.Prelude.{Some, None}
 use Rattle.formula.proofs.ClauseLaws.{length-call_clauses, get_d_call_clauses}
 use Rattle.board.specs.Keys.{key_of}
 use Rattle.board.specs.Blocks.{NextHot}
@@ -123,10 +123,10 @@ module _ {es : List ℤ} {starts : List ℕ} {con : Clause} {lists holders marks
                 let e : get_or keys r 0 ≡ key_of vs cl = key_at r h ∙ ap (key_of vs) here in
                 omega (arith, e, leb-true (get_or keys r 0) 1 (x.hot_there hot_in_lem))
 
-            pub visiting_some : first_unset vs cl ≡ Nothing → ⊥
+            pub visiting_some : first_unset vs cl ≡ None → ⊥
             visiting_some f = hot_some vs cl one f
 
-            module _ (l : Lit) (f : first_unset vs cl ≡ Literal l) where
+            module _ (l : Lit) (f : first_unset vs cl ≡ Some l) where
               unit : state_of vs cl ≡ Unit l
               unit = hot_unit vs cl one l f
 

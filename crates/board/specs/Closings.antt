@@ -1,11 +1,9 @@
 -- A round and a closing over the board, and what they leave. Assumes nothing.
-use Rattle.std.specs.Prelude.{◌≡◌, List, ℕ, suc, ◌≤◌, ℤ, length}
+use Rattle.std.specs.Prelude.{◌≡◌, List, ℕ, suc, ◌≤◌, ℤ, length, Option, None, Some}
 use Rattle.rules.specs.Meaning.{Clause, Values, clauses}
 use Rattle.rules.specs.Closing.{Round, under_way, at_false, round, Closed, clash, closed, closing}
 use Rattle.rules.specs.Rounds.{rounds}
 use Rattle.formula.specs.Starts.{starts_of, clauses_with, call_clauses}
-use Rattle.board.specs.declared.round.RoundEnd.{RoundEnd}
-use Rattle.board.specs.declared.round.RoundEnd.TheVariants.{AtFalse, UnderWay}
 use Rattle.board.specs.declared.close.Closing.{Closing}
 use Rattle.board.specs.declared.close.Closing.TheVariants.{Clash, Closed as AllClosed}
 use Rattle.board.specs.Boards.{Shows}
@@ -19,12 +17,12 @@ pub record BoardOver (es : List ℤ) (starts : List ℕ) (con : Clause) (lists h
   pub shows : Shows (clauses_with es con) lists holders marks vs keys hot trail
 
 -- a round's end with the values that it leaves
-abbrev pub round_of : RoundEnd → Values → Round
-round_of AtFalse vs = at_false
-round_of (UnderWay n) vs = under_way vs n
+abbrev pub round_of : Option ℕ → Values → Round
+round_of None vs = at_false
+round_of (Some n) vs = under_way vs n
 
 -- the round of the definition; the board shows the values that it leaves, and what it set is on the trail
-pub record RoundDone (es : List ℤ) (con : Clause) (lists holders marks : List ℕ) (before : Values) (trail-before : List ℕ) (total : ℕ) (r : RoundEnd)
+pub record RoundDone (es : List ℤ) (con : Clause) (lists holders marks : List ℕ) (before : Values) (trail-before : List ℕ) (total : ℕ) (r : Option ℕ)
     (vs : Values) (keys hot trail : List ℕ) : Type 0 where
   pub round_is : round (call_clauses es con total) (under_way before 0) ≡ round_of r vs
   pub shows : Shows (clauses_with es con) lists holders marks vs keys hot trail

@@ -1,9 +1,10 @@
 // Closing by rounds, docs/RULES.md, "Closing": until a round sets nothing or a clause is false. The rounds are counted.
 ghost use Rattle.board.specs.Closings.{BoardOver, CloseDone};
 
-use crate::round::{RoundEnd, round};
+use crate::round::round;
 
 // What closing ends with, a clash or the closed set in the lent values, and how many rounds it took.
+// Stays an enum: a Result would be no plainer, since a clash is no error, and `Err(2)` would not say that 2 are its rounds.
 #[derive(Clone, Copy)]
 pub enum Closing {
     Clash(u32),
@@ -34,17 +35,13 @@ pub fn close<'a>(
     let mut rounds = 0;
     loop {
         rounds += 1;
-        match round(
+        let Some(set) = round(
             entries, starts, constraint, lists, holders, marks, values, keys, hot, trail, total,
-        ) {
-            RoundEnd::AtFalse => {
-                return Closing::Clash(rounds);
-            }
-            RoundEnd::UnderWay(set) => {
-                if set == 0 {
-                    return Closing::Closed(rounds);
-                }
-            }
+        ) else {
+            return Closing::Clash(rounds);
+        };
+        if set == 0 {
+            return Closing::Closed(rounds);
         }
     }
 }

@@ -6,7 +6,6 @@ ghost use Rattle.formula.specs.Formula.{first_false_of};
 ghost use Rattle.board.specs.Flips.{FalseAsked, FirstsAsked, HeldOver, first_at};
 
 use crate::code::code_of;
-use formula::first_false::FirstFalse;
 use formula::state::has_true;
 use formula::view::clause_in;
 use rules::{ClauseNo, Lit};
@@ -40,19 +39,16 @@ fn first_in(
     list: &[u16],
     keys: &[u32],
     values: &[u8],
-) -> FirstFalse
+) -> Option<ClauseNo>
     requires { FirstsAsked entries.now starts.now list.now keys.now values.now }
     ensures { result ≡ first_false_of (first_at values.now (clauses entries.now) list.now) }
 {
-    let mut j = 0;
-    while j < list.len() {
-        let c = list[j] as usize;
-        if is_false_at(entries, starts, keys, values, c) {
-            return FirstFalse::Clause(ClauseNo(c as u32 + 1));
+    for c in list {
+        if is_false_at(entries, starts, keys, values, *c as usize) {
+            return Some(ClauseNo(*c as u32 + 1));
         }
-        j += 1;
     }
-    FirstFalse::Nothing
+    None
 }
 
 // The first clause of the formula that a flip makes false, by the list of the literal that was true.
@@ -66,7 +62,7 @@ pub fn first_held(
     keys: &[u32],
     values: &[u8],
     l: Lit,
-) -> FirstFalse
+) -> Option<ClauseNo>
     requires { HeldOver entries.now starts.now lists.now holders.now keys.now values.now l.0 }
     ensures { result ≡ first_false_of (first_false values.now (clauses entries.now)) }
 {

@@ -4,18 +4,11 @@ ghost use Rattle.board.specs.Closings.{BoardOver, RoundDone};
 
 use crate::hot::next_hot;
 use crate::literal::set_literal;
-use formula::unset::{Found, first_unset};
+use formula::unset::first_unset;
 use formula::view::clause_in;
 use rules::ClauseNo;
 
-// What a round ends with: a false clause, or the number of literals that it set.
-#[derive(Clone, Copy)]
-pub enum RoundEnd {
-    AtFalse,
-    UnderWay(u32),
-}
-
-// One round over the first `total` clauses, the constraint last.
+// One round over the first `total` clauses, the constraint last: the number of literals that it set, or `None` at a false clause.
 // Rules out: a clause behind the cursor visited in the same round; a false clause passed over.
 // Required of: close, which requires it too.
 pub fn round<'a>(
@@ -30,7 +23,7 @@ pub fn round<'a>(
     hot: &mut [u16],
     trail: &mut [u16],
     total: usize,
-) -> RoundEnd
+) -> Option<u32>
     requires { BoardOver entries.now starts.now constraint.now lists.now holders.now marks.now
         values.old keys.old hot.old trail.old total }
     ensures { RoundDone entries.now constraint.now lists.now holders.now marks.now
@@ -41,11 +34,11 @@ pub fn round<'a>(
     while n < total {
         let at = next_hot(keys, hot, n);
         if total <= at {
-            return RoundEnd::UnderWay(set);
+            return Some(set);
         }
         n = at + 1;
         if keys[at] == 0 {
-            return RoundEnd::AtFalse;
+            return None;
         }
         let clause = clause_in(
             entries,
@@ -54,14 +47,11 @@ pub fn round<'a>(
             constraint,
             ClauseNo(n as u32),
         );
-        match first_unset(clause, values) {
-            Found::Literal(l) => {
-                set_literal(lists, holders, marks, values, keys, hot, trail, l);
-                set += 1;
-            }
-            // Never: a hot clause whose key is not 0 has an unset literal.
-            Found::Nothing => {}
+        // Always: a hot clause whose key is not 0 has an unset literal.
+        if let Some(l) = first_unset(clause, values) {
+            set_literal(lists, holders, marks, values, keys, hot, trail, l);
+            set += 1;
         }
     }
-    RoundEnd::UnderWay(set)
+    Some(set)
 }

@@ -8,6 +8,7 @@
 --   call_clauses_formula, call_clauses-constraint     a call on the formula alone, and one with the constraint
 --   clauses_up_to, nil_up_to, clause_at_up_to     a clause's literals are of the variables 1 to n
 --   length_starts                 one start more than clauses
+--   Numbered, numbered            clause n of the formula as code looks it up
 --
 -- Assumes nothing.
 use mathlib.Core.Path.{◌≡◌, sym, ◌∙◌, ap}
@@ -102,3 +103,20 @@ clause_at_up_to n es con k o u h =
 
 pub length_starts : {vars : ℕ} {es : List ℤ} {starts : List ℕ} → Formula vars es starts → length starts ≡ suc (length (clauses es))
 length_starts {es = es} f = ap length f.starts_are ∙ length-starts_of es
+
+-- clause n of the formula, from 1, as code looks it up: by the constraint that is not there
+pub record Numbered (vars : ℕ) (es : List ℤ) (n : ℕ) : Type 0 where
+  pub within : n - 1 < length (clauses es)
+  pub up_to : ClauseUpTo vars (clause_at es [] n)
+  pub is : get_or (clauses es) (n - 1) [] ≡ clause_at es [] n
+
+pub numbered : {vars : ℕ} {es : List ℤ} {starts : List ℕ} → Formula vars es starts → (n : ℕ) → 1 ≤ n → n < length starts → Numbered vars es n
+numbered f zero h k = absurd (omega arith)
+numbered {vars} {es} f (suc n) h k =
+    let q : suc n - 1 ≡ n = omega arith in
+    let more : n < length (clauses es) = omega (arith, length_starts f) in
+    record {
+      within = omega (arith, more);
+      up_to = clause_at_up_to vars es [] n f.up_to (nil_up_to vars) (omega (arith, more));
+      is = rw q (clause_at_formula es [] (suc n) h more);
+    }

@@ -1,12 +1,11 @@
 -- A formula as code has it: an entry list, where its clauses start, and the number of its variables. Whoever runs, closes, flips or
 -- looks up asks for this one record. Assumes nothing.
-use Rattle.std.specs.Prelude.{◌≡◌, List, ℕ, ◌+◌, ◌≤◌, ℤ, length}
-use Rattle.std.proofs.Math.Option.{Option, none, some}
+use Rattle.std.specs.Prelude.{◌≡◌, List, ℕ, ◌+◌, ◌≤◌, ℤ, length, Option, None, Some}
+use Rattle.std.proofs.Math.Option as math
 use Rattle.rules.specs.Lists.{In}
 use Rattle.rules.specs.Numbers.{max_vars, max_clauses, max_entries, max_held}
 use Rattle.rules.specs.Meaning.{var_of, clauses}
-use Rattle.formula.specs.declared.first_false.FirstFalse.{FirstFalse}
-use Rattle.formula.specs.declared.first_false.FirstFalse.TheVariants.{Clause, Nothing}
+use Rattle.rules.specs.declared.ClauseNo.{ClauseNo}
 use Rattle.formula.specs.Starts.{starts_of}
 
 -- the bounds are those of a list with held literals behind it: code has room for so many
@@ -18,6 +17,6 @@ pub record Formula (vars : ℕ) (es : List ℤ) (starts : List ℕ) : Type 0 whe
   pub up_to : (l : ℤ) → In l es → var_of l ≤ vars
 
 -- the first false clause by its number, or nothing
-abbrev pub first_false_of : Option ℕ → FirstFalse
-first_false_of none = Nothing
-first_false_of (some n) = Clause (record { 0 = n })
+abbrev pub first_false_of : math.Option ℕ → Option ClauseNo
+first_false_of math.none = None
+first_false_of (math.some n) = Some (record { 0 = n })

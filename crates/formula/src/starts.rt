@@ -11,13 +11,10 @@ pub fn find_starts(entries: &[i32], starts: &mut [u16]) -> usize
 {
     starts[0] = 0;
     let mut clauses = 0;
-    let mut i = 0;
-    while i < entries.len() {
-        let entry = entries[i];
-        i += 1;
-        if entry == 0 {
+    for (i, entry) in entries.iter().enumerate() {
+        if *entry == 0 {
             clauses += 1;
-            starts[clauses] = i as u16;
+            starts[clauses] = i as u16 + 1;
         }
     }
     clauses

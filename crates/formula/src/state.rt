@@ -4,7 +4,7 @@ ghost use Rattle.rules.specs.Meaning.{has_true};
 ghost use Rattle.rules.specs.Closing.{state_of};
 ghost use Rattle.formula.specs.Clauses.{ClauseUpTo};
 
-use crate::unset::{Found, first_unset, has_other_unset};
+use crate::unset::{first_unset, has_other_unset};
 use crate::value::is_true;
 use rules::{ClauseState, Lit};
 
@@ -15,15 +15,7 @@ pub fn has_true(clause: &[i32], values: &[u8]) -> bool
     requires { ClauseUpTo (length values.now) clause.now }
     ensures { result ≡ has_true values.now clause.now }
 {
-    let mut i = 0;
-    while i < clause.len() {
-        let l = Lit(clause[i]);
-        if is_true(l, values) {
-            return true;
-        }
-        i += 1;
-    }
-    false
+    clause.iter().any(|l| is_true(Lit(*l), values))
 }
 
 // What a clause is: true with a true literal; with none, its distinct unset literals decide: none, it is false; exactly one, a unit;
@@ -38,8 +30,8 @@ pub fn state_of(clause: &[i32], values: &[u8]) -> ClauseState
         return ClauseState::True;
     }
     match first_unset(clause, values) {
-        Found::Nothing => ClauseState::False,
-        Found::Literal(l) => {
+        None => ClauseState::False,
+        Some(l) => {
             if has_other_unset(clause, values, l) {
                 ClauseState::Undecided
             } else {

@@ -6,29 +6,20 @@ ghost use Rattle.formula.specs.Clauses.{ClauseUpTo, first_unset, has_other_unset
 use crate::value::is_unset;
 use rules::Lit;
 
-// What a search for a literal finds.
-#[derive(Clone, Copy)]
-pub enum Found {
-    Nothing,
-    Literal(Lit),
-}
-
 // The first unset literal of a clause.
 // Rules out: 2 for "1 2 0" where both are unset; nothing where only the last literal is unset.
 // Required of: state_of, which requires it too.
-pub fn first_unset(clause: &[i32], values: &[u8]) -> Found
+pub fn first_unset(clause: &[i32], values: &[u8]) -> Option<Lit>
     requires { ClauseUpTo (length values.now) clause.now }
     ensures { result ≡ first_unset values.now clause.now }
 {
-    let mut i = 0;
-    while i < clause.len() {
-        let l = Lit(clause[i]);
+    for entry in clause {
+        let l = Lit(*entry);
         if is_unset(l, values) {
-            return Found::Literal(l);
+            return Some(l);
         }
-        i += 1;
     }
-    Found::Nothing
+    None
 }
 
 // Whether a clause has an unset literal other than l.
@@ -38,13 +29,7 @@ pub fn has_other_unset(clause: &[i32], values: &[u8], l: Lit) -> bool
     requires { ClauseUpTo (length values.now) clause.now }
     ensures { result ≡ has_other_unset values.now l.0 clause.now }
 {
-    let mut i = 0;
-    while i < clause.len() {
-        let k = Lit(clause[i]);
-        if k.0 != l.0 && is_unset(k, values) {
-            return true;
-        }
-        i += 1;
-    }
-    false
+    clause
+        .iter()
+        .any(|k| *k != l.0 && is_unset(Lit(*k), values))
 }

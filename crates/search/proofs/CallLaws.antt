@@ -27,9 +27,8 @@ use Rattle.rules.proofs.ListLaws.{apart}
 use Rattle.rules.proofs.MeaningLaws.{unset_within, unsets-set}
 use Rattle.rules.proofs.CallLaws.{Lowest, lowest_unset_sound, call_on_next}
 use Rattle.formula.specs.Literals.{byte_of}
-use Rattle.search.specs.declared.values.Choice.TheVariants.{AllSet, Unset}
+use Rattle.std.specs.Prelude.{Some, None}
 use Rattle.search.specs.declared.meter.Meter.{Meter}
-use Rattle.search.specs.declared.meter.Asked.TheVariants.{Given, Spent}
 use Rattle.search.specs.declared.call.CallEnd.{CallEnd}
 use Rattle.search.specs.Choices.{VarUpTo, choice_of}
 use Rattle.search.specs.Meters.{asked_if, asked_of}
@@ -43,7 +42,7 @@ pub record Chosen (vs : Values) (v : ℕ) : Type 0 where
   pub unset : value_at vs (pred v) ≡ 0
   pub lowest : lowest_unset vs ≡ some (pred v)
 
-pub chosen : (vs : Values) (v : Var) → choice_of (lowest_unset vs) ≡ Unset v → Chosen vs v.0
+pub chosen : (vs : Values) (v : Var) → choice_of (lowest_unset vs) ≡ Some v → Chosen vs v.0
 unfolding Lowest
 chosen vs v e = go (lowest_unset vs) refl (lowest_unset_sound vs) e
   where
@@ -57,14 +56,14 @@ chosen vs v e = go (lowest_unset vs) refl (lowest_unset_sound vs) e
           lowest = rw (← s) l;
         }
 
-    go : (o : Option ℕ) → lowest_unset vs ≡ o → Lowest vs o → choice_of o ≡ Unset v → Chosen vs v.0
+    go : (o : Option ℕ) → lowest_unset vs ≡ o → Lowest vs o → choice_of o ≡ Some v → Chosen vs v.0
     go none l h e = apart cc
     go (some i) l h e = at i v.0 l h.0 (cc)
 
-pub choice_none : (vs : Values) → choice_of (lowest_unset vs) ≡ AllSet → lowest_unset vs ≡ none
+pub choice_none : (vs : Values) → choice_of (lowest_unset vs) ≡ None → lowest_unset vs ≡ none
 choice_none vs = go (lowest_unset vs)
   where
-    go : (o : Option ℕ) → choice_of o ≡ AllSet → o ≡ none
+    go : (o : Option ℕ) → choice_of o ≡ None → o ≡ none
     go none e = refl
     go (some i) e = apart cc
 
@@ -147,20 +146,20 @@ module _ (m : Meter) (F : List Clause) (vs : Values) (i x : ℕ) where
   abbrev trying : Call
   trying = try m.budget (call_on m.budget F) vs i x m.spent
 
-  pub ends_stopped : asked_of m ≡ Spent → CallEnds trying vs m.budget (ended Stopped m) vs
+  pub ends_stopped : asked_of m ≡ None → CallEnds trying vs m.budget (ended Stopped m) vs
   ends_stopped e = go (ltb m.spent m.budget) e
     where
-      go : (b : Bool) → asked_if b m ≡ Spent → CallEnds (if_left b (call_on m.budget F) (set vs i x) m.spent) vs m.budget (ended Stopped m) vs
+      go : (b : Bool) → asked_if b m ≡ None → CallEnds (if_left b (call_on m.budget F) (set vs i x) m.spent) vs m.budget (ended Stopped m) vs
       go true e = apart cc
       go false e = record { outcome_is = refl; spent_is = refl; budget_is = refl; values_are = refl }
 
-  module _ (left : Meter) (e : asked_of m ≡ Given left) (r : CallEnd) (us : Values)
+  module _ (left : Meter) (e : asked_of m ≡ Some left) (r : CallEnd) (us : Values)
       (w : CallEnds (call_on left.budget F (set vs i x) left.spent) (set vs i x) left.budget r us) where
     -- a try was taken: the call from the values with the variable set
     paid : CallEnds trying (set vs i x) m.budget r us
     paid = go (ltb m.spent m.budget) e
       where
-        go : (b : Bool) → asked_if b m ≡ Given left → CallEnds (if_left b (call_on m.budget F) (set vs i x) m.spent) (set vs i x) m.budget r us
+        go : (b : Bool) → asked_if b m ≡ Some left → CallEnds (if_left b (call_on m.budget F) (set vs i x) m.spent) (set vs i x) m.budget r us
         go true e =
             let p : m.budget ≡ left.budget = cc in
             let q : m.spent + 1 ≡ left.spent = cc in

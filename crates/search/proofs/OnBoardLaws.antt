@@ -34,9 +34,8 @@ use Rattle.board.specs.Boards.{Shows, Settable, SetAsked, SetDone, trail_len}
 use Rattle.board.specs.Trails.{Leads, UndoAsked}
 use Rattle.board.specs.Closings.{closed_of, CloseDone}
 use Rattle.board.proofs.TrailLaws.{leads_refl, leads_trans, leads_set}
-use Rattle.search.specs.declared.values.Choice.TheVariants.{Unset}
+use Rattle.std.specs.Prelude.{Some, None}
 use Rattle.search.specs.declared.meter.Meter.{Meter}
-use Rattle.search.specs.declared.meter.Asked.TheVariants.{Given, Spent}
 use Rattle.search.specs.declared.call.CallEnd.{CallEnd}
 use Rattle.search.specs.Choices.{choice_of}
 use Rattle.search.specs.Meters.{asked_of}
@@ -122,7 +121,7 @@ module _ {es : List ℤ} {starts : List ℕ} {con : Clause} {lists holders marks
     pub closed_below : SetBelow from vs1
     closed_below = set_below_mono g.below settled.ext settled.len
 
-    module _ (v : Var) (c : choice_of (lowest_unset vs1) ≡ Unset v) where
+    module _ (v : Var) (c : choice_of (lowest_unset vs1) ≡ Some v) where
       choice : Chosen vs1 v.0
       choice = chosen vs1 v c
 
@@ -239,7 +238,7 @@ module _ {es : List ℤ} {starts : List ℕ} {con : Clause} {lists holders marks
 module _ {es : List ℤ} {starts : List ℕ} {con : Clause} {lists holders marks : List ℕ} {vs : Values} {keys hot trail : List ℕ} {total v : ℕ}
     (m : Meter) (x : Bool)
     (a : TryBegins es starts con lists holders marks vs keys hot trail total v) where
-  pub tried_stopped : asked_of m ≡ Spent → Tried es con lists holders marks vs trail total m v x (ended Stopped m) vs keys hot trail
+  pub tried_stopped : asked_of m ≡ None → Tried es con lists holders marks vs trail total m v x (ended Stopped m) vs keys hot trail
   tried_stopped e =
       record {
         tries = ends_stopped m (call_clauses es con total) vs (pred v) (byte_of x) e;
@@ -272,7 +271,7 @@ module _ {es : List ℤ} {starts : List ℕ} {con : Clause} {lists holders marks
           below = set_below_set x a.variable a.below set_is;
         }
 
-    module _ {left : Meter} (e : asked_of m ≡ Given left) {r : CallEnd} {us : Values} {keys2 hot2 trail2 : List ℕ}
+    module _ {left : Meter} (e : asked_of m ≡ Some left) {r : CallEnd} {us : Values} {keys2 hot2 trail2 : List ℕ}
         (w : WentOn es con lists holders marks vs1 trail1 total left r us keys2 hot2 trail2) where
       went_leads : Leads trail vs trail2 us
       went_leads = leads_trans set_leads w.leads

@@ -1,8 +1,7 @@
 -- Variables, and the choice of one. Assumes nothing.
-use Rattle.std.proofs.Math.Option.{Option, none, some}
-use Rattle.std.specs.Prelude.{ℕ, suc, ◌≤◌}
-use Rattle.search.specs.declared.values.Choice.{Choice}
-use Rattle.search.specs.declared.values.Choice.TheVariants.{AllSet, Unset}
+use Rattle.std.proofs.Math.Option as math
+use Rattle.std.specs.Prelude.{ℕ, suc, ◌≤◌, Option, None, Some}
+use Rattle.rules.specs.declared.Var.{Var}
 
 -- a variable from 1 to n
 pub record VarUpTo (n v : ℕ) : Type 0 where
@@ -10,6 +9,6 @@ pub record VarUpTo (n v : ℕ) : Type 0 where
   pub most : v ≤ n
 
 -- the variable at an index
-abbrev pub choice_of : Option ℕ → Choice
-choice_of none = AllSet
-choice_of (some i) = Unset (record { 0 = suc i })
+abbrev pub choice_of : math.Option ℕ → Option Var
+choice_of math.none = None
+choice_of (math.some i) = Some (record { 0 = suc i })

@@ -1,23 +1,21 @@
 -- The meter: "if a try is due and the budget is spent, the run stops there". Assumes nothing.
-use Rattle.std.specs.Prelude.{Bool, true, false, ◌+◌, ltb}
+use Rattle.std.specs.Prelude.{Bool, true, false, ◌+◌, ltb, Option, None, Some}
 use Rattle.search.specs.declared.meter.Meter.{Meter}
-use Rattle.search.specs.declared.meter.Asked.{Asked}
-use Rattle.search.specs.declared.meter.Asked.TheVariants.{Given, Spent}
 
 -- ---- a try that is given, or not
 
-abbrev pub asked_if : Bool → Meter → Asked
-asked_if true m = Given (record { budget = m.budget; spent = m.spent + 1 })
-asked_if false m = Spent
+abbrev pub asked_if : Bool → Meter → Option Meter
+asked_if true m = Some (record { budget = m.budget; spent = m.spent + 1 })
+asked_if false m = None
 
-abbrev pub asked_of : Meter → Asked
+abbrev pub asked_of : Meter → Option Meter
 asked_of m = asked_if (ltb m.spent m.budget) m
 
 -- ---- the meter behind it
 
-abbrev pub meter_after : Meter → Asked → Meter
-meter_after m (Given left) = left
-meter_after m Spent = m
+abbrev pub meter_after : Meter → Option Meter → Meter
+meter_after m (Some left) = left
+meter_after m None = m
 
 abbrev pub after_try : Meter → Meter
 after_try m = meter_after m (asked_of m)

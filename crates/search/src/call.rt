@@ -5,11 +5,10 @@ ghost use Rattle.std.specs.Prelude.{◌≡◌, length, take};
 ghost use Rattle.search.specs.Boards.{TakenBack, goes_again, WentOn, Tried};
 ghost use Rattle.search.specs.Rooms.{UndoIn, GoIn, TryIn};
 
-use crate::meter::{Asked, Meter, ask_try};
+use crate::meter::Meter;
 use crate::room::{
     MAX_BLOCKS, MAX_CODES, MAX_PARTS, MAX_TRAIL, choice_in, close_in, set_in, undo_in,
 };
-use crate::values::Choice;
 use board::close::Closing;
 use board::literal::literal_of;
 use rules::{Outcome, Var};
@@ -113,7 +112,7 @@ pub fn go_on<'a>(
             meter: meter,
         };
     }
-    let Choice::Unset(v) = choice_in(values, vars, from) else {
+    let Some(v) = choice_in(values, vars, from) else {
         return CallEnd {
             outcome: Outcome::Model,
             meter: meter,
@@ -166,7 +165,7 @@ pub fn try_value<'a>(
         (take vars values.old) trail.old total meter v.0 value result
         (take vars values.new) (take (length starts.now) keys.new) hot.new trail.new }
 {
-    let Asked::Given(left) = ask_try(meter) else {
+    let Some(left) = meter.ask_try() else {
         return CallEnd {
             outcome: Outcome::Stopped,
             meter: meter,

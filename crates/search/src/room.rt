@@ -11,14 +11,14 @@ ghost use Rattle.board.specs.Begins.{Begun};
 ghost use Rattle.search.specs.Choices.{choice_of};
 ghost use Rattle.search.specs.Rooms.{Arrays, BoardKept, CloseIn, SetIn, UndoIn, ChoiceIn, BeginIn, BeginOver, ReadyIn, ReadyAsked, Ready};
 
-use crate::values::{Choice, lowest_from};
+use crate::values::lowest_from;
 use board::begin::begin;
 use board::close::{Closing, close};
 use board::constraint::renew;
 use board::literal::set_literal;
 use board::show::show;
 use board::trail::undo;
-use rules::Lit;
+use rules::{Lit, Var};
 
 // The literals of all variables, by number.
 pub const MAX_CODES: usize = 2 * rules::MAX_VARS as usize;
@@ -214,7 +214,7 @@ pub fn undo_in(
 // The lowest unset variable of those in use, from an index below which all variables are set.
 // Rules out: an unset variable behind another; a variable above V.
 // Required of: choice_in, which requires it too.
-fn choice_used(values: &[u8], vars: usize, from: usize) -> Choice
+fn choice_used(values: &[u8], vars: usize, from: usize) -> Option<Var>
     requires { ChoiceIn vars values.now from × (length values.now ≡ max_vars) }
     ensures { result ≡ choice_of (lowest_unset (take vars values.now)) }
 {
@@ -222,9 +222,9 @@ fn choice_used(values: &[u8], vars: usize, from: usize) -> Choice
 }
 
 // The same on the board in the room.
-// Rules out: a variable that is set; AllSet with one left.
+// Rules out: a variable that is set; none with one left.
 // Required of: call::go_on, which requires it too.
-pub fn choice_in(values: &[u8; rules::MAX_VARS as usize], vars: usize, from: usize) -> Choice
+pub fn choice_in(values: &[u8; rules::MAX_VARS as usize], vars: usize, from: usize) -> Option<Var>
     requires { ChoiceIn vars values.now from }
     ensures { result ≡ choice_of (lowest_unset (take vars values.now)) }
 {

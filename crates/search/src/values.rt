@@ -7,26 +7,17 @@ ghost use Rattle.search.specs.Boards.{SetBelow};
 
 use rules::Var;
 
-// What is tried next: a variable, unless all are set.
-#[derive(Clone, Copy)]
-pub enum Choice {
-    AllSet,
-    Unset(Var),
-}
-
 // The lowest unset variable, if not all are set, from an index below which all variables are set.
-// Rules out: an unset variable behind another; AllSet with one left.
+// Rules out: an unset variable behind another; none with one left.
 // Required of: call::go_on, which requires it too.
-pub fn lowest_from(values: &[u8], from: usize) -> Choice
+pub fn lowest_from(values: &[u8], from: usize) -> Option<Var>
     requires { (length values.now ≤ max_vars) × SetBelow from values.now }
     ensures { result ≡ choice_of (lowest_unset values.now) }
 {
-    let mut i = from;
-    while i < values.len() {
+    for i in from..values.len() {
         if values[i] == 0 {
-            return Choice::Unset(Var(i as u32 + 1));
+            return Some(Var(i as u32 + 1));
         }
-        i += 1;
     }
-    Choice::AllSet
+    None
 }

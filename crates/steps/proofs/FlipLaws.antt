@@ -4,7 +4,7 @@
 --   taken_back        a byte stored and stored back
 --   flip_test_is       what `flip_test` does
 --   tested_at         at an index
---   by_nothing, by_clause     what was found says whether the flip may be made
+--   flip_by_first     the first false clause is what the flip test answers
 --   Flipping, flipping_start, flipping_step, flipping_done     the loop of `flip`
 --   none_may          that no clause was found is that the flip may be made
 --   flips_open, flips_closed     what `flip_at` does at an open variable, and at another
@@ -26,7 +26,6 @@ use Rattle.std.specs.Prelude.{Some, None, is_some}
 use Rattle.rules.specs.Meaning.{Clause, Values, first_false}
 use Rattle.rules.specs.Run.{other_byte, flipped, can_flip}
 use Rattle.rules.specs.Hints.{flip_by, flip_test, may_flip}
-use Rattle.formula.specs.declared.first_false.FirstFalse.TheVariants.{Nothing, Clause as Found}
 use Rattle.formula.specs.Formula.{first_false_of}
 use Rattle.steps.specs.Filter.{DropsAt}
 use Rattle.steps.specs.Flip.{FlipTested, FlipsAt, Flips}
@@ -44,19 +43,15 @@ other_byte_high (suc (suc b)) n m = refl
 pub taken_back : (vs : Values) (i b : ℕ) → set (set vs i b) i (get_or vs i 0) ≡ vs
 taken_back vs i b = set-set vs i b (get_or vs i 0) ∙ set-get_or vs i 0
 
-pub by_nothing : (o : Option ℕ) → first_false_of o ≡ Nothing → None ≡ flip_by o
-by_nothing none e = refl
-by_nothing (some n) e = apart cc
-
-pub by_clause : (o : Option ℕ) (n : ClauseNo) → first_false_of o ≡ Found n → Some n ≡ flip_by o
-by_clause none n e = apart cc
-by_clause (some k) n e = cc
+pub flip_by_first : (o : Option ℕ) → first_false_of o ≡ flip_by o
+flip_by_first none = refl
+flip_by_first (some n) = refl
 
 -- `byte` is the variable's, and `other` the other one
 pub flip_test_is : {F : List Clause} {m : Values} {v at other : ℕ} {r : Outcome ClauseNo} → at + 1 ≡ v → at < length m → other ≡ other_byte (get_or m at 0)
-    → r ≡ flip_by (first_false (set m at other) F) → FlipTested F v m r (set (set m at other) at (get_or m at 0))
+    → r ≡ first_false_of (first_false (set m at other) F) → FlipTested F v m r (set (set m at other) at (get_or m at 0))
 flip_test_is {F} {m} {v} {at} {other} {r} e h o s =
-    record { result_is = s ∙ ap (λ (w : Values). flip_by (first_false w F)) (same ∙ ap (flipped m) index); model_same = taken_back m at other }
+    record { result_is = s ∙ flip_by_first _ ∙ ap (λ (w : Values). flip_by (first_false w F)) (same ∙ ap (flipped m) index); model_same = taken_back m at other }
   where
     same : set m at other ≡ flipped m at
     same = ap (set m at) (o ∙ ap other_byte (get_d_default m at 0 1 h))

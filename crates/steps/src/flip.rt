@@ -1,28 +1,13 @@
 // Flips (docs/RULES.md, "Run"): each remaining candidate whose variable, flipped alone in the model, leaves all clauses of the formula
 // true is dropped. Neither the constraint nor the forced literals are consulted.
 ghost use Rattle.std.specs.Prelude.{◌≡◌, length};
-ghost use Rattle.rules.specs.Meaning.{first_false, clauses};
+ghost use Rattle.rules.specs.Meaning.{clauses};
 ghost use Rattle.rules.specs.Run.{other_byte};
-ghost use Rattle.rules.specs.Hints.{flip_by};
 ghost use Rattle.formula.specs.Formula.{Formula};
 ghost use Rattle.steps.specs.Flip.{FlipTestOver, FlipTested, FlipAtOver, FlipsAt, FlipOver, Flips};
 
-use formula::first_false::{FirstFalse, first_false};
+use formula::first_false::first_false;
 use rules::ClauseNo;
-
-// What flipped values say: no clause is false, so that the flip may be made, or the first that is.
-// Rules out: that it may be made where only the last clause is false; the last false clause.
-// Required of: flip_test, which requires it too.
-fn flip_by(entries: &[i32], starts: &[u16], values: &[u8]) -> Option<ClauseNo>
-    requires { Formula (length values.now) entries.now starts.now }
-    ensures { result ≡ flip_by (first_false values.now (clauses entries.now)) }
-{
-    let found = first_false(entries, starts, values);
-    match found {
-        FirstFalse::Nothing => None,
-        FirstFalse::Clause(n) => Some(n),
-    }
-}
 
 // The other of the two values.
 // Rules out: a value for an unset variable; the value itself.
@@ -54,7 +39,7 @@ pub fn flip_test(
     let at = formula::value::index_of(v);
     let byte = model[at];
     model[at] = other_byte(byte);
-    let flip = flip_by(entries, starts, model);
+    let flip = first_false(entries, starts, model);
     model[at] = byte;
     flip
 }

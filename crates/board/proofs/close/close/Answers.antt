@@ -1,5 +1,4 @@
 -- `board::close::close` meets its contract. Assumes nothing.
-use mathlib.Core.Path.{◌∙◌}
 use native.Mathlib.Omega.{arith}
 use Rattle.board.proofs.CloseLaws.{closings_start, closings_asks, closings_few, closings_false, closings_still, closings_falls, closings_again}
 use Rattle.board.proofs.close.close.Goals as goal
@@ -17,55 +16,22 @@ round-requires c =
     closings_asks c.requires
     c.loop-set.invariant
 
-pub shape_of-values-in-AtFalse : goal.shape_of-values-in-AtFalse
-shape_of-values-in-AtFalse c =
-    c.round.auto.values ∙ c.loop-set.invariant.len
-
-pub shape_of-keys-in-AtFalse : goal.shape_of-keys-in-AtFalse
-shape_of-keys-in-AtFalse c =
-    c.round.auto.keys ∙ c.loop-set.invariant.same_keys
-
-pub shape_of-hot-in-AtFalse : goal.shape_of-hot-in-AtFalse
-shape_of-hot-in-AtFalse c =
-    c.round.auto.hot ∙ c.loop-set.invariant.same_hot
-
-pub shape_of-trail-in-AtFalse : goal.shape_of-trail-in-AtFalse
-shape_of-trail-in-AtFalse c =
-    c.round.auto.trail ∙ c.loop-set.invariant.same_trail
-
-pub returns-in-AtFalse : goal.returns-in-AtFalse
-returns-in-AtFalse c =
-    closings_false c.requires c.loop-set.invariant c.round.ensures
-    c.in-AtFalse.is
-
-pub shape_of-values-then-set-eq0 : goal.shape_of-values-then-set-eq0
-shape_of-values-then-set-eq0 c =
-    c.round.auto.values ∙ c.loop-set.invariant.len
-
-pub shape_of-keys-then-set-eq0 : goal.shape_of-keys-then-set-eq0
-shape_of-keys-then-set-eq0 c =
-    c.round.auto.keys ∙ c.loop-set.invariant.same_keys
-
-pub shape_of-hot-then-set-eq0 : goal.shape_of-hot-then-set-eq0
-shape_of-hot-then-set-eq0 c =
-    c.round.auto.hot ∙ c.loop-set.invariant.same_hot
-
-pub shape_of-trail-then-set-eq0 : goal.shape_of-trail-then-set-eq0
-shape_of-trail-then-set-eq0 c =
-    c.round.auto.trail ∙ c.loop-set.invariant.same_trail
+pub returns-in_default : goal.returns-in_default
+returns-in_default c =
+    closings_false c.requires c.loop-set.invariant c.round.ensures c.in_default.is
 
 pub returns-then-set-eq0 : goal.returns-then-set-eq0
 returns-then-set-eq0 c =
     closings_still c.requires c.loop-set.invariant c.round.ensures _
-    c.in-UnderWay.is c.if-set-eq0.true
+    c.in-Some.is c.if-set-eq0.true
 
 pub loop-set-smaller : goal.loop-set-smaller
 loop-set-smaller c =
     closings_falls c.requires c.loop-set.invariant c.round.ensures _
-    c.in-UnderWay.is c.if-set-eq0.false
+    c.in-Some.is c.if-set-eq0.false
 
 pub loop-set-preserved : goal.loop-set-preserved
 loop-set-preserved c =
     closings_again c.requires c.loop-set.invariant c.round.ensures _
-    c.in-UnderWay.is c.if-set-eq0.false
+    c.in-Some.is c.if-set-eq0.false
     c.round.auto.keys c.round.auto.hot c.round.auto.trail

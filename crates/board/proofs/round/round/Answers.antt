@@ -111,7 +111,7 @@ set_literal-requires c =
       F = _;
       can = settable_unit c.before.before.before.requires c.loop-n.invariant c.next_hot-at.ensures
           c.if-total-at.false c.clause_in-clause.ensures c.if-keys-at-eq0.false
-          c.in-Literal.l (sym c.first_unset.ensures ∙ c.in-Literal.is);
+          c.in-Some.l (sym c.first_unset.ensures ∙ c.in-Some.is);
     }
 
 pub overflow_add-set : goal.overflow_add-set
@@ -124,15 +124,15 @@ overflow_add-set c =
       c.loop-n.invariant.shows.hot_are.small,
     )
 
-pub loop-n-smaller-in-Literal : goal.loop-n-smaller-in-Literal
-loop-n-smaller-in-Literal c =
+pub loop-n-smaller-in-Some : goal.loop-n-smaller-in-Some
+loop-n-smaller-in-Some c =
     omega (arith, c.next_hot-at.ensures.above, c.if-total-at.false)
 
-pub loop-n-preserved-in-Literal : goal.loop-n-preserved-in-Literal
-loop-n-preserved-in-Literal c =
+pub loop-n-preserved-in-Some : goal.loop-n-preserved-in-Some
+loop-n-preserved-in-Some c =
     visiting_unit c.before.before.before.requires c.loop-n.invariant c.next_hot-at.ensures
     c.if-total-at.false c.clause_in-clause.ensures c.if-keys-at-eq0.false
-    c.in-Literal.l (sym c.first_unset.ensures ∙ c.in-Literal.is)
+    c.in-Some.l (sym c.first_unset.ensures ∙ c.in-Some.is)
     c.set_literal.ensures c.set_literal.auto.keys c.set_literal.auto.hot
     c.set_literal.auto.trail
 
@@ -144,7 +144,7 @@ pub loop-n-preserved : goal.loop-n-preserved
 loop-n-preserved c =
     absurd (visiting_some c.before.before.before.requires c.loop-n.invariant c.next_hot-at.ensures
     c.if-total-at.false c.clause_in-clause.ensures c.if-keys-at-eq0.false
-    (sym c.first_unset.ensures ∙ c.in-Nothing.is))
+    (sym c.first_unset.ensures ∙ c.in_default.is))
 
 pub shape_of-values : goal.shape_of-values
 shape_of-values c =

@@ -11,30 +11,30 @@ returns-then-has_true c =
     let args = c.args in
     sym (state_of_true args.values.now args.clause.now (sym c.has_true.ensures ∙ c.if-has_true.true))
 
-pub returns-in-Nothing : goal.returns-in-Nothing
-returns-in-Nothing c =
+pub returns-in-None : goal.returns-in-None
+returns-in-None c =
     let args = c.args in
     sym (state_of_none args.values.now args.clause.now (sym c.has_true.ensures ∙ c.if-has_true.false)
-    (sym c.first_unset.ensures ∙ c.in-Nothing.is))
+    (sym c.first_unset.ensures ∙ c.in-None.is))
 
 pub returns-then-has_other_unset : goal.returns-then-has_other_unset
 returns-then-has_other_unset c =
     let decided : state_of c.args.values.now
     c.args.clause.now
-    ≡ unit_if (not c.has_other_unset.result) c.in-Literal.l.0 =
+    ≡ unit_if (not c.has_other_unset.result) c.in-Some.l.0 =
     let args = c.args in
-    let l = c.in-Literal.l in
+    let l = c.in-Some.l in
     rw c.has_other_unset.ensures (state_of_first args.values.now args.clause.now l (sym c.has_true.ensures ∙ c.if-has_true.false)
-    (sym c.first_unset.ensures ∙ c.in-Literal.is)) in
+    (sym c.first_unset.ensures ∙ c.in-Some.is)) in
     sym (rw c.if-has_other_unset.true at decided)
 
 pub returns-else-has_other_unset : goal.returns-else-has_other_unset
 returns-else-has_other_unset c =
     let decided : state_of c.args.values.now
     c.args.clause.now
-    ≡ unit_if (not c.has_other_unset.result) c.in-Literal.l.0 =
+    ≡ unit_if (not c.has_other_unset.result) c.in-Some.l.0 =
     let args = c.args in
-    let l = c.in-Literal.l in
+    let l = c.in-Some.l in
     rw c.has_other_unset.ensures (state_of_first args.values.now args.clause.now l (sym c.has_true.ensures ∙ c.if-has_true.false)
-    (sym c.first_unset.ensures ∙ c.in-Literal.is)) in
+    (sym c.first_unset.ensures ∙ c.in-Some.is)) in
     sym (rw c.if-has_other_unset.false at decided)

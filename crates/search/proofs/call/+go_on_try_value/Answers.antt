@@ -41,13 +41,13 @@ go_on-try_value-end-requires t c = (
   omega (
     arith,
     c.decreases,
-    turn_falls c.args.meter c.requires.over c.close_in-closing.ensures c.in_default.is c.in-Unset.v
-        (sym c.choice_in.ensures ∙ c.in-Unset.is) c.loop-value.invariant,
+    turn_falls c.args.meter c.requires.over c.close_in-closing.ensures c.in_default.is c.in-Some.v
+        (sym c.choice_in.ensures ∙ c.in-Some.is) c.loop-value.invariant,
   ),
   record {
     fits = c.requires.fits;
-    over = turn_begins c.args.meter c.requires.over c.close_in-closing.ensures c.in_default.is c.in-Unset.v
-        (sym c.choice_in.ensures ∙ c.in-Unset.is) c.loop-value.invariant;
+    over = turn_begins c.args.meter c.requires.over c.close_in-closing.ensures c.in_default.is c.in-Some.v
+        (sym c.choice_in.ensures ∙ c.in-Some.is) c.loop-value.invariant;
   },
 )
 
@@ -57,22 +57,22 @@ go_on-loop-value-smaller t c =
 
 pub go_on-loop-value-preserved : goal.go_on-loop-value-preserved
 go_on-loop-value-preserved t c =
-    turn_again c.args.meter c.requires.over c.close_in-closing.ensures c.in_default.is c.in-Unset.v
-    (sym c.choice_in.ensures ∙ c.in-Unset.is) c.loop-value.invariant c.try_value-end.ensures
+    turn_again c.args.meter c.requires.over c.close_in-closing.ensures c.in_default.is c.in-Some.v
+    (sym c.choice_in.ensures ∙ c.in-Some.is) c.loop-value.invariant c.try_value-end.ensures
     (sym c.goes_again.ensures ∙ c.if-goes_again.true)
 
 pub go_on-take_back-requires-else-goes_again : goal.go_on-take_back-requires-else-goes_again
 go_on-take_back-requires-else-goes_again t c =
     record {
       fits = c.requires.fits;
-      over = turn_asks c.args.meter c.requires.over c.close_in-closing.ensures c.in_default.is c.in-Unset.v
-          (sym c.choice_in.ensures ∙ c.in-Unset.is) c.loop-value.invariant c.try_value-end.ensures;
+      over = turn_asks c.args.meter c.requires.over c.close_in-closing.ensures c.in_default.is c.in-Some.v
+          (sym c.choice_in.ensures ∙ c.in-Some.is) c.loop-value.invariant c.try_value-end.ensures;
     }
 
 pub go_on-returns-else-goes_again : goal.go_on-returns-else-goes_again
 go_on-returns-else-goes_again t c =
-    turn_went c.args.meter c.requires.over c.close_in-closing.ensures c.in_default.is c.in-Unset.v
-    (sym c.choice_in.ensures ∙ c.in-Unset.is) c.loop-value.invariant c.try_value-end.ensures
+    turn_went c.args.meter c.requires.over c.close_in-closing.ensures c.in_default.is c.in-Some.v
+    (sym c.choice_in.ensures ∙ c.in-Some.is) c.loop-value.invariant c.try_value-end.ensures
     (sym c.goes_again.ensures ∙ c.if-goes_again.false) c.take_back-else-goes_again.ensures
 
 pub try_value-returns-in_default : goal.try_value-returns-in_default
@@ -97,11 +97,11 @@ try_value-go_on-end-requires t c =
 pub try_value-take_back-requires : goal.try_value-take_back-requires
 try_value-take_back-requires t c =
     let done = rw c.literal_of.ensures at c.set_in.ensures in
-    let given = sym c.ask_try.ensures ∙ c.in-Given.is in
+    let given = sym c.ask_try.ensures ∙ c.in-Some.is in
     record { fits = c.requires.fits; over = try_asks c.args.meter c.args.value c.requires.over done given c.go_on-end.ensures }
 
 pub try_value-returns : goal.try_value-returns
 try_value-returns t c =
     let done = rw c.literal_of.ensures at c.set_in.ensures in
-    let given = sym c.ask_try.ensures ∙ c.in-Given.is in
+    let given = sym c.ask_try.ensures ∙ c.in-Some.is in
     tried_back c.args.meter c.args.value c.requires.over done given c.go_on-end.ensures c.take_back.ensures

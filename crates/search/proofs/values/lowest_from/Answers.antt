@@ -1,5 +1,4 @@
 -- `search::values::lowest_from` meets its contract. Assumes nothing.
-use native.Mathlib.Omega.{arith}
 use native.Mathlib.Numerals.{add-one}
 use Rattle.search.proofs.ValueLaws.{passed_from, passed_step, passed_unset, passed_done}
 use Rattle.search.proofs.values.lowest_from.Goals as goal
@@ -7,14 +6,6 @@ use Rattle.search.proofs.values.lowest_from.Goals as goal
 pub loop-i-init : goal.loop-i-init
 loop-i-init c =
     passed_from c.requires.1
-
-pub overflow_cast-result : goal.overflow_cast-result
-overflow_cast-result c =
-    omega (arith, c.loop-i-test.true, c.requires.0)
-
-pub overflow_add-result : goal.overflow_add-result
-overflow_add-result c =
-    omega (arith, c.loop-i-test.true, c.requires.0)
 
 pub returns-then-values-i-eq0 : goal.returns-then-values-i-eq0
 returns-then-values-i-eq0 c =

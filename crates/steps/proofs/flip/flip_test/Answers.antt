@@ -11,4 +11,4 @@ bounds-model-at-3 c =
 pub returns : goal.returns
 returns c =
     let s = c.before in
-    flip_test_is c.index_of-at.ensures (omega (arith, c.index_of-at.ensures)) c.other_byte.ensures c.flip_by-flip.ensures
+    flip_test_is c.index_of-at.ensures (omega (arith, c.index_of-at.ensures)) c.other_byte.ensures c.first_false-flip.ensures
