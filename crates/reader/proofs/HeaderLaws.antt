@@ -10,7 +10,7 @@
 use mathlib.Core.Path.{◌≡◌, refl, sym, ◌∙◌, ap}
 use mathlib.Core.Bool.{Bool, true, false, not, ◌&&◌, and-false}
 use mathlib.Core.List.{List, [], ◌∷◌, ◌++◌, map}
-use mathlib.Core.Option.{Option, none, some}
+use mathlib.Core.Option.{Option as Maybe, none, some}
 use Prim.Native.Nat.{ℕ, suc, ◌+◌, ◌-◌, ◌≤◌, ◌<◌}
 use native.Mathlib.Decide.{dec_lt}
 use native.Mathlib.Omega.{arith}
@@ -19,6 +19,7 @@ use borrow.Author.Tests.{eq-eqb, ne_eqb, le-leb, lt-leb}
 use lib.Dec.{eqb, leb}
 use lib.ListN.{length, get_or, take, drop, drop_of_length-le, length-drop}
 use lib.Seq.{drop-cons, take-suc, take_all, drop-drop, length-take-le}
+use Rattle.std.specs.Prelude.{Option, None, Some}
 use Rattle.rules.specs.Lists.{keep, nth_index, cut, eqs}
 use Rattle.rules.specs.declared.ReadAnswer.{ReadAnswer}
 use Rattle.texts.specs.Text.{Piece, Sizes, is_gap, is_blank, is_empty, is_numeral, trim_if, trimmed, sizes_if, sizes_of, words_of, header_of, tokens_from}
@@ -26,7 +27,6 @@ use Rattle.texts.specs.Reading.{refused, judge_tokens, judge_sizes, fits, judge_
 use Rattle.rules.proofs.ListLaws.{apart}
 use Rattle.texts.proofs.CutLaws.{Stops, at_end, at_one, words_from, bytes_placed_words}
 use Rattle.reader.specs.declared.header.Header.{Header}
-use Rattle.reader.specs.declared.header.HeaderLine.{HeaderLine}
 use Rattle.reader.specs.Scan.{first_from}
 use Rattle.reader.specs.Words.{sizes, header_line}
 use Rattle.reader.specs.Lines.{piece_of, judge_line_at}
@@ -250,7 +250,7 @@ module _ {line : List ℕ} {p cnf cnf-end vars vars-end clauses clauses-end more
           (part_none line cnf cnf-end w.cnf_to (omega arith))
 
   pub header_four :
-      length line ≤ more → {r : HeaderLine} →
+      length line ≤ more → {r : Option Header} →
       r ≡
       header_line
       (sizes_of (take p line ∷ take (cnf-end - cnf) (drop cnf line) ∷ take (vars-end - vars) (drop vars line) ∷
@@ -286,20 +286,20 @@ module _ (text : List ℕ) (from to : ℕ) where
   abbrev line : List ℕ
   line = (piece_of text from to).bytes
 
-  header_bad : (o : Option Sizes) → header_line o ≡ HeaderLine.Malformed → o ≡ none
+  header_bad : (o : Maybe Sizes) → header_line o ≡ None → o ≡ none
   header_bad none e = refl
   header_bad (some s) e = apart cc
 
-  header_good : (o : Option Sizes) (h : Header) → header_line o ≡ HeaderLine.Is h → o ≡ some (sizes h)
+  header_good : (o : Maybe Sizes) (h : Header) → header_line o ≡ Some h → o ≡ some (sizes h)
   header_good none h e = apart cc
   header_good (some s) h e = let r : record { vars = s.vars; clauses = s.clauses } ≡ h = cc in rw (← r)
 
-  pub line_bad : header_line (header_of line) ≡ HeaderLine.Malformed → judge_line_at text from to ≡ refused (ReadAnswer.BadHeader from)
-  line_bad e = ap (λ (o : Option Sizes). judge_header o text (piece_of text from to)) (header_bad (header_of line) e)
+  pub line_bad : header_line (header_of line) ≡ None → judge_line_at text from to ≡ refused (ReadAnswer.BadHeader from)
+  line_bad e = ap (λ (o : Maybe Sizes). judge_header o text (piece_of text from to)) (header_bad (header_of line) e)
 
-  module _ (h : Header) (is-header : header_line (header_of line) ≡ HeaderLine.Is h) where
+  module _ (h : Header) (is-header : header_line (header_of line) ≡ Some h) where
     by_sizes : judge_line_at text from to ≡ judge_sizes (fits (sizes h)) (sizes h) text (piece_of text from to)
-    by_sizes = ap (λ (o : Option Sizes). judge_header o text (piece_of text from to)) (header_good (header_of line) h is-header)
+    by_sizes = ap (λ (o : Maybe Sizes). judge_header o text (piece_of text from to)) (header_good (header_of line) h is-header)
 
     pub line_large : fits (sizes h) ≡ false → judge_line_at text from to ≡ refused (ReadAnswer.LargeHeader from)
     line_large e = by_sizes ∙ ap (λ (t : Bool). judge_sizes t (sizes h) text (piece_of text from to)) e

@@ -8,37 +8,36 @@
 use mathlib.Core.Path.{◌≡◌, refl}
 use mathlib.Core.Bool.{Bool, true, false}
 use mathlib.Core.List.{List, [], ◌∷◌}
-use mathlib.Core.Option.{Option, none, some}
+use mathlib.Core.Option.{Option as Maybe, none, some}
 use Prim.Native.Nat.{ℕ, zero, suc, ◌-◌}
 use native.Mathlib.Omega.{arith}
 use borrow.Author.Tests.{ne_eqb}
 use lib.IntN.{ℤ, pos, negsuc}
 use lib.ListN.{length, get_or, take, drop}
 use lib.Seq.{take_all}
+use Rattle.std.specs.Prelude.{None, Some}
 use Rattle.texts.specs.Text.{is_numeral, numeral, negative_of, entry_if, entry_of}
-use Rattle.reader.specs.declared.number.Number.{Number}
 use Rattle.reader.specs.declared.token.Entry.{Entry}
-use Rattle.reader.specs.declared.token.Token.{Token}
 use Rattle.reader.specs.Words.{number_if, number_of, value_of, token_of, signed_token}
 use Rattle.rules.proofs.ListLaws.{apart}
 
 -- ---- a number with a minus or without
 
-pub signed_zero : (minus : Bool) (n : ℕ) → minus ≡ true → n ≡ 0 → Token.Malformed ≡ signed_token minus (Number.Is n)
+pub signed_zero : (minus : Bool) (n : ℕ) → minus ≡ true → n ≡ 0 → None ≡ signed_token minus (Some n)
 signed_zero minus n e z = rw (e, z)
 
-pub signed_minus : (minus : Bool) (n : ℕ) → (n ≡ 0 → ⊥) → Token.Is (record { minus = minus; number = n }) ≡ signed_token minus (Number.Is n)
+pub signed_minus : (minus : Bool) (n : ℕ) → (n ≡ 0 → ⊥) → Some (record { minus = minus; number = n }) ≡ signed_token minus (Some n)
 signed_minus true zero h = absurd (h refl)
 signed_minus true (suc n) h = refl
 signed_minus false n h = refl
 
 pub signed-plain :
-    (minus : Bool) (n : ℕ) → minus ≡ false → Token.Is (record { minus = minus; number = n }) ≡ signed_token minus (Number.Is n)
+    (minus : Bool) (n : ℕ) → minus ≡ false → Some (record { minus = minus; number = n }) ≡ signed_token minus (Some n)
 signed-plain minus n e = rw e
 
 -- ---- a token by its first byte
 
-pub token_none : (w : List ℕ) → length w ≡ 0 → Token.Malformed ≡ token_of (entry_of w)
+pub token_none : (w : List ℕ) → length w ≡ 0 → None ≡ token_of (entry_of w)
 unfolding entry_of
 token_none [] h = refl
 token_none (b ∷ bs) h = absurd (omega arith)
@@ -67,12 +66,12 @@ token_plain (b ∷ bs) n e = rw (ne_eqb b 45 e) (plain_is (is_numeral (b ∷ bs)
 
 -- ---- what is read
 
-pub bad_of_token : (o : Option ℤ) → token_of o ≡ Token.Malformed → o ≡ none
+pub bad_of_token : (o : Maybe ℤ) → token_of o ≡ None → o ≡ none
 bad_of_token none h = refl
 bad_of_token (some (pos n)) h = apart cc
 bad_of_token (some (negsuc n)) h = apart cc
 
-pub entry_of_token : (o : Option ℤ) (e : Entry) → token_of o ≡ Token.Is e → o ≡ some (value_of e)
+pub entry_of_token : (o : Maybe ℤ) (e : Entry) → token_of o ≡ Some e → o ≡ some (value_of e)
 entry_of_token none e h = apart cc
 entry_of_token (some (pos n)) e h = let r : record { minus = false; number = n } ≡ e = cc in rw (← r)
 entry_of_token (some (negsuc n)) e h = let r : record { minus = true; number = suc n } ≡ e = cc in rw (← r)

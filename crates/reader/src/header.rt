@@ -4,7 +4,7 @@ ghost use Rattle.rules.specs.Lists.{eqs, cut};
 ghost use Rattle.texts.specs.Text.{is_gap, words_of, sizes_of, header_of};
 ghost use Rattle.reader.specs.Words.{header_line, Trims};
 
-use crate::number::{Number, number_of};
+use crate::number::number_of;
 use crate::scan::{Wanted, find, is_blank};
 
 // V and C.
@@ -12,13 +12,6 @@ use crate::scan::{Wanted, find, is_blank};
 pub struct Header {
     pub vars: u32,
     pub clauses: u32,
-}
-
-// What a line says if it is read as the header.
-#[derive(Clone, Copy)]
-pub enum HeaderLine {
-    Malformed,
-    Is(Header),
 }
 
 // How long the line is without the blanks behind.
@@ -54,29 +47,22 @@ pub fn is_word(word: &[u8], wanted: &[u8]) -> bool
 }
 
 // The four words as a header.
-fn sizes_of(p: &[u8], cnf: &[u8], vars: &[u8], clauses: &[u8]) -> HeaderLine
+fn sizes_of(p: &[u8], cnf: &[u8], vars: &[u8], clauses: &[u8]) -> Option<Header>
     ensures { result ≡ header_line (sizes_of (p.now ∷ cnf.now ∷ vars.now ∷ clauses.now ∷ [])) }
 {
     if !is_word(p, b"p") {
-        return HeaderLine::Malformed;
+        return None;
     }
     if !is_word(cnf, b"cnf") {
-        return HeaderLine::Malformed;
+        return None;
     }
-    let Number::Is(v) = number_of(vars) else {
-        return HeaderLine::Malformed;
-    };
-    let Number::Is(c) = number_of(clauses) else {
-        return HeaderLine::Malformed;
-    };
-    HeaderLine::Is(Header {
-        vars: v,
-        clauses: c,
-    })
+    let vars = number_of(vars)?;
+    let clauses = number_of(clauses)?;
+    Some(Header { vars, clauses })
 }
 
 // A line with no blanks behind. A word that is missing is read as an empty one, which no header has.
-fn words_of(line: &[u8]) -> HeaderLine
+fn words_of(line: &[u8]) -> Option<Header>
     ensures { result ≡ header_line (sizes_of (words_of (cut is_gap line.now))) }
 {
     let p_end = find(line, Wanted::Gap, 0);
@@ -88,7 +74,7 @@ fn words_of(line: &[u8]) -> HeaderLine
     let clauses_end = find(line, Wanted::Gap, clauses);
     let more = find(line, Wanted::NoGap, clauses_end);
     if more < line.len() {
-        return HeaderLine::Malformed;
+        return None;
     }
     sizes_of(
         &line[..p_end],
@@ -98,8 +84,9 @@ fn words_of(line: &[u8]) -> HeaderLine
     )
 }
 
+// What a line says if it is read as the header.
 // Rules out: a header with a blank before the `p`; a fifth word passed over.
-pub fn header_of(line: &[u8]) -> HeaderLine
+pub fn header_of(line: &[u8]) -> Option<Header>
     ensures { result ≡ header_line (header_of line.now) }
 {
     let n = trimmed_len(line);

@@ -5,13 +5,6 @@ ghost use Rattle.reader.specs.Lines.{skipped, first_line};
 
 use crate::scan::{Wanted, find};
 
-// The line that has to be the header: its first byte, and the LF or the end of text behind it.
-#[derive(Clone, Copy)]
-pub enum Line {
-    Missing,
-    At(usize, usize),
-}
-
 // Rules out: true for a `c` behind a blank; false for an empty line.
 pub fn is_skipped(line: &[u8]) -> bool
     ensures { result ≡ skipped line.now }
@@ -25,18 +18,18 @@ pub fn is_skipped(line: &[u8]) -> bool
     line.len() <= find(line, Wanted::NoBlank, 0)
 }
 
-// The first line that is not skipped. A text that ends with LF has an empty line behind it, which is skipped.
-// Rules out: the second line that is not skipped; Missing where there is one.
-pub fn first_line(text: &[u8]) -> Line
+// The first line that is not skipped, which has to be the header: its first byte, and the LF or the end of text behind it. A text that ends with LF has an empty line behind it, which is skipped.
+// Rules out: the second line that is not skipped; None where there is one.
+pub fn first_line(text: &[u8]) -> Option<(usize, usize)>
     ensures { result ≡ first_line (lines_of text.now) }
 {
     let mut at = 0;
     while at <= text.len() {
         let end = find(text, Wanted::Lf, at);
         if !is_skipped(&text[at..end]) {
-            return Line::At(at, end);
+            return Some((at, end));
         }
         at = end + 1;
     }
-    Line::Missing
+    None
 }

@@ -16,34 +16,35 @@ returns-then-not-is_word-2 c =
     rw
     (sym c.is_word.ensures ∙ c.if-not-is_word.false, sym c.is_word-2.ensures ∙ c.if-not-is_word-2.true)
 
-pub returns-in_default : goal.returns-in_default
-returns-in_default c =
+pub returns-in_err-vars : goal.returns-in_err-vars
+returns-in_err-vars c =
     let two : (eqs c.args.p.now (112 ∷ []) ≡ true) × (eqs c.args.cnf.now (99 ∷ 110 ∷ 102 ∷ []) ≡ true) =
     (sym c.is_word.ensures ∙ c.if-not-is_word.false, sym c.is_word-2.ensures ∙ c.if-not-is_word-2.false) in
     let (p, cnf) = two in
-    rw (p, cnf, number_bad c.args.vars.now (sym c.number_of.ensures ∙ c.in_default.is))
+    rw (p, cnf, number_bad c.args.vars.now (sym c.number_of.ensures ∙ c.in_err-vars.was)) c.from_residual.ensures
 
-pub returns-in_default-number_of : goal.returns-in_default-number_of
-returns-in_default-number_of c =
+pub returns-in_err-clauses : goal.returns-in_err-clauses
+returns-in_err-clauses c =
     let two : (eqs c.args.p.now (112 ∷ []) ≡ true) × (eqs c.args.cnf.now (99 ∷ 110 ∷ 102 ∷ []) ≡ true) =
     (sym c.is_word.ensures ∙ c.if-not-is_word.false, sym c.is_word-2.ensures ∙ c.if-not-is_word-2.false) in
-    let vars_good : let word = c.args.vars.now in (is_numeral word ≡ true) × (numeral word ≡ c.in-Is.v) =
-    number_good c.args.vars.now c.in-Is.v (sym c.number_of.ensures ∙ c.in-Is.is) in
+    let vars_good : let word = c.args.vars.now in (is_numeral word ≡ true) × (numeral word ≡ c.in_ok-vars.vars) =
+    number_good c.args.vars.now c.in_ok-vars.vars (sym c.number_of.ensures ∙ c.in_ok-vars.was) in
     let (p, cnf) = two in
     rw (
       p,
       cnf,
       vars_good.0,
-      number_bad c.args.clauses.now (sym c.number_of-2.ensures ∙ c.in_default-number_of.is),
+      number_bad c.args.clauses.now (sym c.number_of-2.ensures ∙ c.in_err-clauses.was),
     )
+    c.from_residual-in_err-clauses.ensures
 
 pub returns : goal.returns
 returns c =
     let two : (eqs c.args.p.now (112 ∷ []) ≡ true) × (eqs c.args.cnf.now (99 ∷ 110 ∷ 102 ∷ []) ≡ true) =
     (sym c.is_word.ensures ∙ c.if-not-is_word.false, sym c.is_word-2.ensures ∙ c.if-not-is_word-2.false) in
-    let vars_good : let word = c.args.vars.now in (is_numeral word ≡ true) × (numeral word ≡ c.in-Is.v) =
-    number_good c.args.vars.now c.in-Is.v (sym c.number_of.ensures ∙ c.in-Is.is) in
+    let vars_good : let word = c.args.vars.now in (is_numeral word ≡ true) × (numeral word ≡ c.in_ok-vars.vars) =
+    number_good c.args.vars.now c.in_ok-vars.vars (sym c.number_of.ensures ∙ c.in_ok-vars.was) in
     let (p, cnf) = two in
     let v = vars_good in
-    let n = number_good c.args.clauses.now _ (sym c.number_of-2.ensures ∙ c.in-Is-number_of.is) in
+    let n = number_good c.args.clauses.now _ (sym c.number_of-2.ensures ∙ c.in_ok-clauses.was) in
     rw (p, cnf, v.0, n.0, v.1, n.1)

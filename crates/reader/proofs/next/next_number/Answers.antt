@@ -19,14 +19,14 @@ slice_bounds-token_of-end c =
     omega (arith, c.find-to.ensures, c.if-text-from.false, from_le is_blank c.args.text.now c.find-from.result (omega arith)) in
     omega (arith, to_le)
 
-pub returns-in-Malformed : goal.returns-in-Malformed
-returns-in-Malformed c =
+pub returns-in_default : goal.returns-in_default
+returns-in_default c =
     let s = c.args in
     finds_malformed s.text.now s.at c.find-from.result c.find-from.ensures c.find-to.result c.find-to.ensures
-    (omega (arith, c.if-text-from.false)) (sym c.token_of.ensures ∙ c.in-Malformed.is)
+    (omega (arith, c.if-text-from.false)) (sym c.token_of.ensures ∙ c.in_default.is)
 
-pub returns-in-Is : goal.returns-in-Is
-returns-in-Is c =
+pub returns : goal.returns
+returns c =
     let s = c.args in
     finds_number s.text.now s.at c.find-from.result c.find-from.ensures c.find-to.result c.find-to.ensures
-    (omega (arith, c.if-text-from.false)) c.in-Is.e (sym c.token_of.ensures ∙ c.in-Is.is)
+    (omega (arith, c.if-text-from.false)) c.in-Some.entry (sym c.token_of.ensures ∙ c.in-Some.is)

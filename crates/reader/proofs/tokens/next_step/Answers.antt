@@ -44,21 +44,21 @@ slice_bounds-token_of-end c =
     omega (arith, c.find-to.ensures, from_le is_blank s.text.now c.next_token-from.result (omega arith)) in
     omega (arith, to_le)
 
-pub returns-in-Malformed : goal.returns-in-Malformed
-returns-in-Malformed c =
+pub returns-in_default : goal.returns-in_default
+returns-in_default c =
     let goes_on : let s = c.args in let n = c.next_token-from.result in ends_text (sizes s.h) s.c.clauses (take (c.find-to.result - n) (drop n s.text.now))
     ≡ false =
     sym c.ends_text.ensures ∙ c.if-ends_text.false in
     let s = c.args in
     step_bad s.h s.text.now s.c c.next_token-from.result c.next_token-from.ensures c.find-to.result c.find-to.ensures c.if-text-from.false
-    goes_on (sym c.token_of.ensures ∙ c.in-Malformed.is)
+    goes_on (sym c.token_of.ensures ∙ c.in_default.is)
 
-pub returns-in-Is : goal.returns-in-Is
-returns-in-Is c =
+pub returns : goal.returns
+returns c =
     let goes_on : let s = c.args in let n = c.next_token-from.result in ends_text (sizes s.h) s.c.clauses (take (c.find-to.result - n) (drop n s.text.now))
     ≡ false =
     sym c.ends_text.ensures ∙ c.if-ends_text.false in
     let s = c.args in
-    step_of {step = entry_step s.h s.c c.next_token-from.result c.find-to.result (value_of c.in-Is.e)} c.judge_entry.ensures
+    step_of {step = entry_step s.h s.c c.next_token-from.result c.find-to.result (value_of c.in-Some.e)} c.judge_entry.ensures
     (step_entry s.h s.text.now s.c c.next_token-from.result c.next_token-from.ensures c.find-to.result c.find-to.ensures c.if-text-from.false
-    c.in-Is.e goes_on (sym c.token_of.ensures ∙ c.in-Is.is))
+    c.in-Some.e goes_on (sym c.token_of.ensures ∙ c.in-Some.is))
