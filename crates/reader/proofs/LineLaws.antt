@@ -1,7 +1,7 @@
 -- The laws of `first_line` (specs/Lines): whether a line is skipped, the lines one by one as src/line.rt finds them, and what the
 -- text is judged to by the line that is found.
 --
---   skipped_none, skipped_comment, skipped_other     whether a line is skipped, by its first byte and the first that is no blank
+--   skipped_all                   whether a line is skipped that begins with no `c`
 --   cut_first, cut_whole          the first piece of a cut and the rest; a cut of one piece
 --   lines_from, line_next          the line at a place, then the lines behind it; lines_end: behind the text there is none
 --   text_missing, text_line, line_inside     the text by the first line that is not skipped, which lies within it
@@ -14,44 +14,30 @@ use Prim.Native.Nat.{ℕ, suc, ◌+◌, ◌-◌, ◌≤◌, ◌<◌}
 use native.Mathlib.Decide.{dec_lt}
 use native.Mathlib.Omega.{arith}
 use borrow.Author.Tests.{ne_eqb}
-use lib.Dec.{leb, leb-suc-suc, leb-suc-zero}
+use lib.Dec.{eqb}
 use lib.ListN.{length, get_or, take, drop, drop_of_length-le, length-drop, length-append}
 use lib.Seq.{drop-drop, take-length, take_all, take-append_seam, drop-append-add, length-take-le}
+use Rattle.std.specs.Prelude.{Option, None, Some}
+use Rattle.std.specs.List.{list_all, starts_with}
 use Rattle.rules.specs.declared.ReadAnswer.{ReadAnswer}
 use Rattle.rules.specs.Lists.{all, nth_index, index_if, onto, cut, cut_if}
 use Rattle.texts.specs.Text.{Piece, is_lf, is_blank, is_skipped, placed_from, lines_of, header_of}
 use Rattle.texts.specs.Reading.{Judged, refused, judge_header, judge_line, judge_lines}
+use Rattle.rules.proofs.ListLaws.{never}
 use Rattle.texts.proofs.CutLaws.{Cut, last, piece, cut_none, cut_exists}
-use Rattle.reader.specs.declared.line.Line.{Line}
 use Rattle.reader.specs.Scan.{first_from}
 use Rattle.reader.specs.Lines.{skipped, line_if, first_line, piece_of, judge_line_at}
 use Rattle.reader.proofs.ScanLaws.{first_le, first_none}
 
 -- ---- one line
 
-all_first : (p : ℕ → Bool) (xs : List ℕ) → leb (length xs) (nth_index (λ b. not (p b)) xs 0) ≡ all p xs
-all_first p [] = refl
-all_first p (x ∷ xs) = go (p x) (all_first p xs)
-  where
-    go :
-        (b : Bool) → leb (length xs) (nth_index (λ b. not (p b)) xs 0) ≡ all p xs →
-        leb (suc (length xs)) (index_if (not b) 0 (λ k. nth_index (λ b. not (p b)) xs k)) ≡ (b && all p xs)
-    go true h = leb-suc-suc (length xs) (nth_index (λ b. not (p b)) xs 0) ∙ h
-    go false h = leb-suc-zero (length xs)
+all_each : (p : ℕ → Bool) (xs : List ℕ) → list_all p xs ≡ all p xs
+all_each p [] = refl
+all_each p (x ∷ xs) = ap (λ (b : Bool). p x && b) (all_each p xs)
 
-pub skipped_none : (line : List ℕ) → length line ≡ 0 → true ≡ skipped line
-skipped_none [] h = refl
-skipped_none (b ∷ bs) h = absurd (omega arith)
-
-pub skipped_comment : (line : List ℕ) → (length line ≡ 0 → ⊥) → get_or line 0 0 ≡ 99 → true ≡ skipped line
-skipped_comment [] n e = absurd (n refl)
-skipped_comment (b ∷ bs) n e = rw e
-
-pub skipped_other : (line : List ℕ) → (get_or line 0 0 ≡ 99 → ⊥) → leb (length line) (first_from (λ b. not (is_blank b)) line 0) ≡ skipped line
-skipped_other [] n = refl
-skipped_other (b ∷ bs) n =
-    let e : first_from (λ b. not (is_blank b)) (b ∷ bs) 0 ≡ nth_index (λ b. not (is_blank b)) (b ∷ bs) 0 = omega arith in
-    rw (ne_eqb b 99 n) (ap (leb (length (b ∷ bs))) e ∙ all_first is_blank (b ∷ bs))
+pub skipped_all : (line : List ℕ) (r : Bool) → starts_with eqb line (99 ∷ []) ≡ false → r ≡ list_all is_blank line → r ≡ skipped line
+skipped_all [] r n e = e
+skipped_all (b ∷ bs) r n e = rw (ne_eqb b 99 (λ q. never refl (rw q at n))) (e ∙ all_each is_blank (b ∷ bs))
 
 -- ---- the first piece of a cut
 
@@ -75,11 +61,14 @@ module _ (p : ℕ → Bool) where
 
 -- ---- lines by their places
 
+abbrev some_line : ℕ → ℕ → Option (ℕ × ℕ)
+some_line at i = Some (at, i)
+
 abbrev pub lines_from : List ℕ → ℕ → List Piece
 lines_from text at = placed_from at (cut is_lf (drop at text))
 
 -- behind the text an empty line would be skipped
-pub lines_end : (text : List ℕ) (at : ℕ) → length text < at → first_line (lines_from text at) ≡ Line.Missing
+pub lines_end : (text : List ℕ) (at : ℕ) → length text < at → first_line (lines_from text at) ≡ None
 lines_end text at h = rw (drop_of_length-le text {i = at} (omega arith))
 
 module _ (text : List ℕ) (at end : ℕ) (here : end ≡ first_from is_lf text at) (within : at ≤ length text) where
@@ -108,32 +97,32 @@ module _ (text : List ℕ) (at end : ℕ) (here : end ≡ first_from is_lf text 
           (ap₂ (λ (i : ℕ) (ys : List ℕ). placed_from i (cut is_lf ys)) place (drop-drop (suc n) at text ∙ ap (λ (i : ℕ). drop i text) shift))
       go (no h) =
           ap (λ (xss : List (List ℕ)). first_line (placed_from at xss)) (cut_whole is_lf (drop at text) (omega (arith, here, length-drop at text))) ∙
-          ap₂ (λ (bs : List ℕ) (rest : Line). line_if (is_skipped (record { at = at; bytes = bs })) (record { at = at; bytes = bs }) rest)
+          ap₂ (λ (bs : List ℕ) (rest : Option (ℕ × ℕ)). line_if (is_skipped (record { at = at; bytes = bs })) (record { at = at; bytes = bs }) rest)
           (sym (take_all (end - at) (drop at text) (omega (arith, here, length-drop at text)))) (sym (lines_end text (end + 1) (omega arith)))
 
-  pub line_found : is_skipped (piece_of text at end) ≡ false → first_line (lines_from text at) ≡ Line.At at end
+  pub line_found : is_skipped (piece_of text at end) ≡ false → first_line (lines_from text at) ≡ Some (at, end)
   line_found e =
       line_next ∙
       (let most : end - at ≤ length (drop at text) = omega (arith, here, first_le is_lf (drop at text)) in
       let is-end : at + length (take (end - at) (drop at text)) ≡ end = omega (arith, here, length-take-le (end - at) (drop at text) most) in
-      rw e (ap (Line.At at) is-end))
+      rw e (ap (λ (i : ℕ). some_line at i) is-end))
 
   pub line_past : is_skipped (piece_of text at end) ≡ true → first_line (lines_from text at) ≡ first_line (lines_from text (end + 1))
   line_past e = line_next ∙ rw e
 
 -- ---- the text by the line that is found
 
-abbrev by_line : List ℕ → Line → Judged
-by_line text Line.Missing = refused (ReadAnswer.BadHeader (length text))
-by_line text (Line.At from to) = judge_line_at text from to
+abbrev by_line : List ℕ → Option (ℕ × ℕ) → Judged
+by_line text None = refused (ReadAnswer.BadHeader (length text))
+by_line text (Some (from, to)) = judge_line_at text from to
 
 pub record Inside (from to n : ℕ) : Type 0 where
   pub ends : from ≤ to
   pub most : to ≤ n
 
-abbrev Within : List ℕ → Line → Type 0
-Within text Line.Missing = Prim.Unit {0}
-Within text (Line.At from to) = Inside from to (length text)
+abbrev Within : List ℕ → Option (ℕ × ℕ) → Type 0
+Within text None = Prim.Unit {0}
+Within text (Some (from, to)) = Inside from to (length text)
 
 module _ (text : List ℕ) where
   part_is : (at : ℕ) (xs ys : List ℕ) → xs ++ ys ≡ drop at text → take (at + length xs - at) (drop at text) ≡ xs
@@ -160,7 +149,7 @@ module _ (text : List ℕ) where
       go :
           (t : Bool) →
           judge_line t text (record { at = at; bytes = xs }) (refused (ReadAnswer.BadHeader (length text)))
-          ≡ by_line text (line_if t (record { at = at; bytes = xs }) Line.Missing)
+          ≡ by_line text (line_if t (record { at = at; bytes = xs }) None)
       go true = refl
       go false = found_is at xs [] (append-nil xs ∙ e)
   cut_judged at (piece {xs} {y} {ys} {yss} h q c) e =
@@ -179,7 +168,7 @@ module _ (text : List ℕ) where
       Within text (first_line (placed_from at xss))
   cut_within at (last {xs} h) e = go (is_skipped (record { at = at; bytes = xs }))
     where
-      go : (t : Bool) → Within text (line_if t (record { at = at; bytes = xs }) Line.Missing)
+      go : (t : Bool) → Within text (line_if t (record { at = at; bytes = xs }) None)
       go true = tt
       go false = record { ends = omega arith; most = omega arith }
   cut_within at (piece {xs} {y} {ys} {yss} h q c) e =
@@ -200,11 +189,11 @@ module _ (text : List ℕ) where
   lines_within = cut_within 0 (cut_exists is_lf text) (omega arith)
 
   -- by what is found
-  pub text_missing : first_line (lines_of text) ≡ Line.Missing → judge_lines text (lines_of text) ≡ refused (ReadAnswer.BadHeader (length text))
+  pub text_missing : first_line (lines_of text) ≡ None → judge_lines text (lines_of text) ≡ refused (ReadAnswer.BadHeader (length text))
   text_missing e = lines_judged ∙ ap (by_line text) e
 
-  pub text_line : (from to : ℕ) → first_line (lines_of text) ≡ Line.At from to → judge_lines text (lines_of text) ≡ judge_line_at text from to
+  pub text_line : (from to : ℕ) → first_line (lines_of text) ≡ Some (from, to) → judge_lines text (lines_of text) ≡ judge_line_at text from to
   text_line from to e = lines_judged ∙ ap (by_line text) e
 
-  pub line_inside : (from to : ℕ) → first_line (lines_of text) ≡ Line.At from to → Inside from to (length text)
+  pub line_inside : (from to : ℕ) → first_line (lines_of text) ≡ Some (from, to) → Inside from to (length text)
   line_inside from to e = subst (Within text) e lines_within

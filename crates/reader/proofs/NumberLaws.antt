@@ -17,34 +17,34 @@ use borrow.Author.Tests.{le-leb, lt-leb}
 use lib.Dec.{leb}
 use lib.ListN.{length, get_or, drop, drop_of_length-le}
 use lib.Seq.{drop-cons}
+use Rattle.std.specs.Prelude.{None, Some}
 use Rattle.rules.specs.Lists.{all}
 use Rattle.texts.specs.Text.{is_digit, is_numeral, value_from, numeral}
 use Rattle.rules.proofs.ListLaws.{apart}
 use Rattle.texts.proofs.TokenLaws.{digit_above, digit_most}
-use Rattle.reader.specs.declared.number.Number.{Number}
 use Rattle.reader.specs.Words.{number_if, number_of}
 
 -- ---- what the answer says
 
-pub number_bad : (word : List ℕ) → number_of word ≡ Number.Malformed → is_numeral word ≡ false
+pub number_bad : (word : List ℕ) → number_of word ≡ None → is_numeral word ≡ false
 number_bad word e = go (is_numeral word) e
   where
-    go : (t : Bool) → number_if t (numeral word) ≡ Number.Malformed → t ≡ false
+    go : (t : Bool) → number_if t (numeral word) ≡ None → t ≡ false
     go true e = apart cc
     go false e = refl
 
-pub number_good : (word : List ℕ) (n : ℕ) → number_of word ≡ Number.Is n → (is_numeral word ≡ true) × (numeral word ≡ n)
+pub number_good : (word : List ℕ) (n : ℕ) → number_of word ≡ Some n → (is_numeral word ≡ true) × (numeral word ≡ n)
 number_good word n e = go (is_numeral word) e
   where
-    go : (t : Bool) → number_if t (numeral word) ≡ Number.Is n → (t ≡ true) × (numeral word ≡ n)
+    go : (t : Bool) → number_if t (numeral word) ≡ Some n → (t ≡ true) × (numeral word ≡ n)
     go true e = (refl, cc)
     go false e = apart cc
 
-pub not_number_none : (word : List ℕ) → length word ≡ 0 → Number.Malformed ≡ number_of word
+pub not_number_none : (word : List ℕ) → length word ≡ 0 → None ≡ number_of word
 not_number_none [] h = refl
 not_number_none (b ∷ bs) h = absurd (omega arith)
 
-pub not_number_long : (word : List ℕ) → 9 < length word → Number.Malformed ≡ number_of word
+pub not_number_long : (word : List ℕ) → 9 < length word → None ≡ number_of word
 not_number_long word h = rw (lt-leb (length word) 9 h, and-false (leb 1 (length word)), and-false (all is_digit word))
 
 -- ---- the loop
@@ -72,12 +72,12 @@ module _ (word : List ℕ) (n i : ℕ) (d : Digits word n i) (h : i < length wor
     value = rw (add-one i) (rw (drop-cons word i 0 h) at d.value);
   }
 
-  pub not_number_byte : is_digit (get_or word i 0) ≡ false → Number.Malformed ≡ number_of word
+  pub not_number_byte : is_digit (get_or word i 0) ≡ false → None ≡ number_of word
   not_number_byte e = let none : false ≡ all is_digit word = rw (drop-cons word i 0 h, e) at d.digits in rw (← none)
 
 pub digits_done :
     (word : List ℕ) (n i : ℕ) → Digits word n i → length word ≤ i → (length word ≡ 0 → ⊥) → length word ≤ 9 →
-    Number.Is n ≡ number_of word
+    Some n ≡ number_of word
 digits_done word n i d h some most =
     let each : true ≡ all is_digit word = rw (drop_of_length-le word h) at d.digits in
     let value : n ≡ numeral word = rw (drop_of_length-le word h) at d.value in

@@ -3,16 +3,16 @@
 --
 --   minus_fits, minus_is, plain_is, held, value_back     the entry as the machine holds it
 --   var_is, zero_is               its variable, and whether it closes a clause
+--   stored                        an entry to store and the cursor behind it
 --   step_short, step_end          the step at the end of text
 --   step_percent, step_bad, step_entry     at a closing `%`, at a malformed token, at an entry
 --   step_of                       a step that is another
---   step_says                     what a step says of what is left of the text
 --
 -- Assumes nothing.
 use mathlib.Core.Path.{◌≡◌, refl, sym, ◌∙◌, ap, subst}
 use mathlib.Core.Bool.{Bool, true, false}
 use mathlib.Core.List.{List}
-use mathlib.Core.Option.{Option, none, some}
+use mathlib.Core.Option.{Option as Maybe, none, some}
 use Prim.Native.Nat.{ℕ, zero, suc, ◌+◌, ◌-◌, ◌≤◌, ◌<◌}
 use native.Mathlib.Omega.{arith}
 use native.Mathlib.Numerals.{add-one}
@@ -22,20 +22,19 @@ use lib.IntN.{ℤ, pos, negsuc, nat_abs, neg_ℤ, ◌-ℤ◌, +ℤ_idl}
 use lib.ListN.{length, take, drop, drop_of_length-le}
 use mir.Syntax.{w32}
 use mir.Val.{SFits, to_z, of_z}
+use Rattle.std.specs.Prelude.{None, Some, Ok, Err}
 use Rattle.rules.specs.declared.ReadAnswer.{ReadAnswer}
 use Rattle.rules.specs.Lists.{first_of, or_next, count_if, is_zero}
 use Rattle.rules.specs.Numbers.{max_entries}
 use Rattle.texts.specs.Text.{is_blank, tokens_from, entry_of}
 use Rattle.texts.specs.Reading.{Judged, unless, entry_rules, with_entry, judge_token, judge_end, ends_text, or_ended, judge_tokens}
 use Rattle.reader.specs.declared.token.Entry.{Entry}
-use Rattle.reader.specs.declared.token.Token.{Token}
 use Rattle.reader.specs.declared.header.Header.{Header}
 use Rattle.reader.specs.declared.tokens.Cursor.{Cursor}
-use Rattle.reader.specs.declared.tokens.Step.{Step}
 use Rattle.reader.specs.Scan.{first_from}
 use Rattle.reader.specs.Words.{signed_value, max_number, value_of, token_of, sizes}
 use Rattle.reader.specs.Skips.{Skips}
-use Rattle.reader.specs.Steps.{step_if, entry_step, left, Judges, Steps}
+use Rattle.reader.specs.Steps.{Step, step_if, entry_step, left, Judges, Steps}
 use Rattle.rules.proofs.ListLaws.{apart}
 use Rattle.rules.proofs.BitLaws.{to_z-of_z_at}
 use Rattle.texts.proofs.BodyLaws.{tokens_nil}
@@ -90,7 +89,10 @@ value_back e h = held (value_of e) (omega (arith, var_is e))
 
 -- ---- the step at the cursor
 
-no_rule : (b : Bool) (a : ReadAnswer) (o : Option ReadAnswer) → or_next b a o ≡ none → (b ≡ false) × (o ≡ none)
+abbrev pub stored : ℤ → Cursor → Step
+stored l next = Ok (Some (l, next))
+
+no_rule : (b : Bool) (a : ReadAnswer) (o : Maybe ReadAnswer) → or_next b a o ≡ none → (b ≡ false) × (o ≡ none)
 no_rule true a o e = apart cc
 no_rule false a o e = (refl, e)
 
@@ -116,10 +118,10 @@ module _ (h : Header) (text : List ℕ) (c : Cursor) where
           ap (judge_tokens (sizes h) (length text) c.clauses c.entries)
           (sym s.passed.same ∙ ap (tokens_from from) (drop_of_length-le text e) ∙ tokens_nil from)
 
-      pub step_short : c.clauses < h.clauses → Steps h text c (Step.Refused (ReadAnswer.ShortText (length text)))
+      pub step_short : c.clauses < h.clauses → Steps h text c (Err (ReadAnswer.ShortText (length text)))
       step_short k = record { judges = none_left ∙ ap (λ (t : Bool). judge_end t (sizes h) (length text)) (lt-ltb c.clauses h.clauses k) }
 
-      pub step_end : h.clauses ≤ c.clauses → Steps h text c Step.TextEnd
+      pub step_end : h.clauses ≤ c.clauses → Steps h text c (Ok None)
       step_end k = record { judges = none_left ∙ ap (λ (t : Bool). judge_end t (sizes h) (length text)) (le-ltb c.clauses h.clauses k) }
 
     -- one stands up to `to`
@@ -138,22 +140,22 @@ module _ (h : Header) (text : List ℕ) (c : Cursor) where
           ap (judge_tokens (sizes h) (length text) c.clauses c.entries)
           (sym s.passed.same ∙ tokens_here text from to l (s.no_blank l) e)
 
-      pub step_percent : ends_text (sizes h) c.clauses word ≡ true → Steps h text c Step.TextEnd
+      pub step_percent : ends_text (sizes h) c.clauses word ≡ true → Steps h text c (Ok None)
       step_percent t = record { judges = token_left ∙ rw t }
 
-      judged : ends_text (sizes h) c.clauses word ≡ false → {o : Option ℤ} → entry_of word ≡ o
+      judged : ends_text (sizes h) c.clauses word ≡ false → {o : Maybe ℤ} → entry_of word ≡ o
           → left h text c ≡ judge_token o (sizes h) c.clauses c.entries from (λ k. later k)
       judged t q = token_left ∙ rw (t, q)
 
       pub step_bad :
-          ends_text (sizes h) c.clauses word ≡ false → token_of (entry_of word) ≡ Token.Malformed → Steps h text c (Step.Refused (ReadAnswer.BadToken from))
+          ends_text (sizes h) c.clauses word ≡ false → token_of (entry_of word) ≡ None → Steps h text c (Err (ReadAnswer.BadToken from))
       step_bad t q = record { judges = judged t (bad_of_token (entry_of word) q) }
 
       entry_says :
-          (x : ℤ) (o : Option ReadAnswer) → first_of (entry_rules (sizes h) c.clauses c.entries from x) ≡ o →
+          (x : ℤ) (o : Maybe ReadAnswer) → first_of (entry_rules (sizes h) c.clauses c.entries from x) ≡ o →
           Judges h text c
           (unless o (with_entry x (later (count_if (is_zero x) c.clauses))))
-          (step_if o (Step.Store x (record { at = to; clauses = count_if (is_zero x) c.clauses; entries = c.entries + 1 })))
+          (step_if o (Ok (Some (x, record { at = to; clauses = count_if (is_zero x) c.clauses; entries = c.entries + 1 }))))
       entry_says x none q = record {
         judged =
             ap (λ (n : ℕ). with_entry x (judge_tokens (sizes h) (length text) (count_if (is_zero x) c.clauses) n (tokens_from to (drop to text))))
@@ -167,7 +169,7 @@ module _ (h : Header) (text : List ℕ) (c : Cursor) where
       entry_says x (some a) q = refl
 
       pub step_entry :
-          (en : Entry) → ends_text (sizes h) c.clauses word ≡ false → token_of (entry_of word) ≡ Token.Is en →
+          (en : Entry) → ends_text (sizes h) c.clauses word ≡ false → token_of (entry_of word) ≡ Some en →
           Steps h text c (entry_step h c from to (value_of en))
       step_entry en t q = record {
         judges =
@@ -177,7 +179,3 @@ module _ (h : Header) (text : List ℕ) (c : Cursor) where
 
 pub step_of : {h : Header} {text : List ℕ} {c : Cursor} {r step : Step} → r ≡ step → Steps h text c step → Steps h text c r
 step_of {h} {text} {c} e s = subst (Steps h text c) (sym e) s
-
--- what the caller of a step has of it
-pub step_says : {h : Header} {text : List ℕ} {c : Cursor} {r : Step} (s : Step) → Steps h text c r → r ≡ s → Judges h text c (left h text c) s
-step_says {h} {text} {c} s p e = subst (Judges h text c (left h text c)) e p.judges

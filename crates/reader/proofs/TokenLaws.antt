@@ -8,37 +8,36 @@
 use mathlib.Core.Path.{◌≡◌, refl}
 use mathlib.Core.Bool.{Bool, true, false}
 use mathlib.Core.List.{List, [], ◌∷◌}
-use mathlib.Core.Option.{Option, none, some}
-use Prim.Native.Nat.{ℕ, zero, suc, ◌-◌}
+use mathlib.Core.Option.{Option as Maybe, none, some}
+use Prim.Native.Nat.{ℕ, zero, suc, ◌-◌, ◌≤◌, ◌<◌}
 use native.Mathlib.Omega.{arith}
 use borrow.Author.Tests.{ne_eqb}
 use lib.IntN.{ℤ, pos, negsuc}
 use lib.ListN.{length, get_or, take, drop}
 use lib.Seq.{take_all}
+use Rattle.std.specs.Prelude.{None, Some}
 use Rattle.texts.specs.Text.{is_numeral, numeral, negative_of, entry_if, entry_of}
-use Rattle.reader.specs.declared.number.Number.{Number}
 use Rattle.reader.specs.declared.token.Entry.{Entry}
-use Rattle.reader.specs.declared.token.Token.{Token}
 use Rattle.reader.specs.Words.{number_if, number_of, value_of, token_of, signed_token}
 use Rattle.rules.proofs.ListLaws.{apart}
 
 -- ---- a number with a minus or without
 
-pub signed_zero : (minus : Bool) (n : ℕ) → minus ≡ true → n ≡ 0 → Token.Malformed ≡ signed_token minus (Number.Is n)
+pub signed_zero : (minus : Bool) (n : ℕ) → minus ≡ true → n ≡ 0 → None ≡ signed_token minus (Some n)
 signed_zero minus n e z = rw (e, z)
 
-pub signed_minus : (minus : Bool) (n : ℕ) → (n ≡ 0 → ⊥) → Token.Is (record { minus = minus; number = n }) ≡ signed_token minus (Number.Is n)
+pub signed_minus : (minus : Bool) (n : ℕ) → (n ≡ 0 → ⊥) → Some (record { minus = minus; number = n }) ≡ signed_token minus (Some n)
 signed_minus true zero h = absurd (h refl)
 signed_minus true (suc n) h = refl
 signed_minus false n h = refl
 
 pub signed-plain :
-    (minus : Bool) (n : ℕ) → minus ≡ false → Token.Is (record { minus = minus; number = n }) ≡ signed_token minus (Number.Is n)
+    (minus : Bool) (n : ℕ) → minus ≡ false → Some (record { minus = minus; number = n }) ≡ signed_token minus (Some n)
 signed-plain minus n e = rw e
 
 -- ---- a token by its first byte
 
-pub token_none : (w : List ℕ) → length w ≡ 0 → Token.Malformed ≡ token_of (entry_of w)
+pub token_none : (w : List ℕ) → length w < 1 → signed_token false (number_of w) ≡ token_of (entry_of w)
 unfolding entry_of
 token_none [] h = refl
 token_none (b ∷ bs) h = absurd (omega arith)
@@ -53,26 +52,26 @@ plain_is true n = refl
 plain_is false n = refl
 
 pub token_minus :
-    (w : List ℕ) → (length w ≡ 0 → ⊥) → get_or w 0 0 ≡ 45 →
+    (w : List ℕ) → 1 ≤ length w → get_or w 0 0 ≡ 45 →
     signed_token true (number_of (take (length w - 1) (drop 1 w))) ≡ token_of (entry_of w)
 unfolding entry_of
-token_minus [] n e = absurd (n refl)
+token_minus [] n e = absurd (omega arith)
 token_minus (b ∷ bs) n e =
     rw (e, take_all (suc (length bs) - 1) bs (omega arith)) (minus_is (is_numeral bs) (numeral bs))
 
-pub token_plain : (w : List ℕ) → (length w ≡ 0 → ⊥) → (get_or w 0 0 ≡ 45 → ⊥) → signed_token false (number_of w) ≡ token_of (entry_of w)
+pub token_plain : (w : List ℕ) → 1 ≤ length w → (get_or w 0 0 ≡ 45 → ⊥) → signed_token false (number_of w) ≡ token_of (entry_of w)
 unfolding entry_of
-token_plain [] n e = absurd (n refl)
+token_plain [] n e = absurd (omega arith)
 token_plain (b ∷ bs) n e = rw (ne_eqb b 45 e) (plain_is (is_numeral (b ∷ bs)) (numeral (b ∷ bs)))
 
 -- ---- what is read
 
-pub bad_of_token : (o : Option ℤ) → token_of o ≡ Token.Malformed → o ≡ none
+pub bad_of_token : (o : Maybe ℤ) → token_of o ≡ None → o ≡ none
 bad_of_token none h = refl
 bad_of_token (some (pos n)) h = apart cc
 bad_of_token (some (negsuc n)) h = apart cc
 
-pub entry_of_token : (o : Option ℤ) (e : Entry) → token_of o ≡ Token.Is e → o ≡ some (value_of e)
+pub entry_of_token : (o : Maybe ℤ) (e : Entry) → token_of o ≡ Some e → o ≡ some (value_of e)
 entry_of_token none e h = apart cc
 entry_of_token (some (pos n)) e h = let r : record { minus = false; number = n } ≡ e = cc in rw (← r)
 entry_of_token (some (negsuc n)) e h = let r : record { minus = true; number = suc n } ≡ e = cc in rw (← r)

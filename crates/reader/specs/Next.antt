@@ -1,10 +1,9 @@
 -- What src/next.rt finds. Assumes nothing.
-use Rattle.std.specs.Prelude.{◌≡◌, true, List, [], ◌∷◌, ℕ, ◌-◌, ◌≤◌, ◌<◌, length, take, drop}
+use Rattle.std.specs.Prelude.{◌≡◌, true, List, [], ◌∷◌, ℕ, ◌-◌, ◌≤◌, ◌<◌, length, take, drop, Option, None, Some, Result, Ok, Err}
 use Rattle.std.proofs.Math.Option.{none, some}
 use Rattle.texts.specs.Text.{Piece, tokens_in, entry_of}
-use Rattle.reader.specs.declared.token.Entry.{Entry}
 use Rattle.reader.specs.Words.{value_of}
-use Rattle.reader.specs.declared.next.Found.{Found}
+use Rattle.reader.specs.declared.next.Spot.{Spot}
 
 -- the tokens from a place on
 abbrev pub tokens_at : List ℕ → ℕ → List Piece
@@ -21,8 +20,8 @@ pub record Next (text : List ℕ) (at from to : ℕ) : Type 0 where
   pub within : to ≤ length text
 
 -- no token; one that says nothing; one that says a number, which is not 0 with a minus
-pub data Finds (text : List ℕ) (at : ℕ) : Found → Type 0 where
-  no_token : tokens_at text at ≡ [] → Finds text at Found.TextEnd
-  malformed : {from : ℕ} (to : ℕ) → Next text at from to → entry_of (bytes_at text from to) ≡ none → Finds text at (Found.Malformed from)
-  number : {from to : ℕ} {e : Entry} → Next text at from to → entry_of (bytes_at text from to) ≡ some (value_of e) → (e.minus ≡ true → 1 ≤ e.number)
-      → Finds text at (Found.Is from to e)
+pub data Finds (text : List ℕ) (at : ℕ) : Result (Option Spot) ℕ → Type 0 where
+  no_token : tokens_at text at ≡ [] → Finds text at (Ok None)
+  malformed : {from : ℕ} (to : ℕ) → Next text at from to → entry_of (bytes_at text from to) ≡ none → Finds text at (Err from)
+  number : {s : Spot} → Next text at s.from s.to → entry_of (bytes_at text s.from s.to) ≡ some (value_of s.entry) → (s.entry.minus ≡ true → 1 ≤ s.entry.number)
+      → Finds text at (Ok (Some s))

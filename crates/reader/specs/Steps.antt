@@ -1,6 +1,6 @@
 -- One step over the tokens (src/tokens.rt), and what it says of what is left. Assumes nothing.
-use Rattle.std.specs.Prelude.{◌≡◌, List, [], ℕ, ◌+◌, ◌≤◌, ◌<◌, ℤ, nat_abs, length, drop}
-use Rattle.std.proofs.Math.Option.{Option, none, some}
+use Rattle.std.specs.Prelude.{◌≡◌, List, [], ℕ, ◌+◌, ◌≤◌, ◌<◌, ℤ, nat_abs, length, drop, Option, None, Some, Result, Ok, Err}
+use Rattle.std.proofs.Math.Option.{Option as Maybe, none, some}
 use Rattle.rules.specs.declared.ReadAnswer.{ReadAnswer}
 use Rattle.rules.specs.Lists.{count_if, first_of, is_zero}
 use Rattle.rules.specs.Numbers.{max_entries}
@@ -8,20 +8,23 @@ use Rattle.texts.specs.Text.{tokens_from}
 use Rattle.texts.specs.Reading.{Judged, accepted, refused, entry_rules, with_entry, judge_tokens}
 use Rattle.reader.specs.declared.header.Header.{Header}
 use Rattle.reader.specs.declared.tokens.Cursor.{Cursor}
-use Rattle.reader.specs.declared.tokens.Step.{Step}
 use Rattle.reader.specs.Words.{sizes}
+
+-- a refusal, the end of the text, or an entry to store and the cursor behind it
+abbrev pub Step : Type 0
+Step = Result (Option (ℤ × Cursor)) ReadAnswer
 
 -- ---- an entry
 
-abbrev pub step_if : Option ReadAnswer → Step → Step
+abbrev pub step_if : Maybe ReadAnswer → Step → Step
 step_if none step = step
-step_if (some a) step = Step.Refused a
+step_if (some a) step = Err a
 
 -- an entry l that stands from `from` up to `to`
 abbrev pub entry_step : Header → Cursor → ℕ → ℕ → ℤ → Step
 entry_step h c from to l =
     step_if (first_of (entry_rules (sizes h) c.clauses c.entries from l))
-    (Step.Store l (record { at = to; clauses = count_if (is_zero l) c.clauses; entries = c.entries + 1 }))
+    (Ok (Some (l, record { at = to; clauses = count_if (is_zero l) c.clauses; entries = c.entries + 1 })))
 
 -- ---- what is left
 
@@ -44,9 +47,9 @@ pub record After (h : Header) (text : List ℕ) (c : Cursor) (j : Judged) (l : �
   pub var : nat_abs l ≤ h.vars
 
 abbrev pub Judges : Header → List ℕ → Cursor → Judged → Step → Type 0
-Judges h text c j (Step.Refused a) = j ≡ refused a
-Judges h text c j Step.TextEnd = j ≡ accepted (sizes h) []
-Judges h text c j (Step.Store l next) = After h text c j l next
+Judges h text c j (Err a) = j ≡ refused a
+Judges h text c j (Ok None) = j ≡ accepted (sizes h) []
+Judges h text c j (Ok (Some (l, next))) = After h text c j l next
 
 -- the step at the cursor
 pub record Steps (h : Header) (text : List ℕ) (c : Cursor) (step : Step) : Type 0 where

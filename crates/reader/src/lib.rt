@@ -21,8 +21,8 @@ ghost use Rattle.reader.specs.Lines.{judge_line_at};
 ghost use Rattle.reader.specs.Stores.{Stores};
 
 use answer::refused;
-use header::{HeaderLine, header_of};
-use line::{Line, first_line};
+use header::header_of;
+use line::first_line;
 use rules::{MAX_CLAUSES, MAX_ENTRIES, MAX_TEXT, MAX_VARS, ReadAnswer, Reading};
 use store::clear;
 use tokens::read_tokens;
@@ -32,7 +32,7 @@ fn read_header(text: &[u8], from: usize, to: usize, entries: &mut [i32]) -> Read
     requires { (from ≤ to) × (to ≤ length text.now) × (max_entries ≤ length entries.old) }
     ensures { Stores (judge_line_at text.now from to) entries.old result entries.new }
 {
-    let HeaderLine::Is(h) = header_of(&text[from..to]) else {
+    let Some(h) = header_of(&text[from..to]) else {
         return refused(ReadAnswer::BadHeader(from));
     };
     if MAX_VARS < h.vars || MAX_CLAUSES < h.clauses {
@@ -46,10 +46,10 @@ fn read_text(text: &[u8], entries: &mut [i32]) -> Reading
     requires { max_entries ≤ length entries.old }
     ensures { Stores (judge_lines text.now (lines_of text.now)) entries.old result entries.new }
 {
-    match first_line(text) {
-        Line::Missing => refused(ReadAnswer::BadHeader(text.len())),
-        Line::At(from, to) => read_header(text, from, to, entries),
-    }
+    let Some((from, to)) = first_line(text) else {
+        return refused(ReadAnswer::BadHeader(text.len()));
+    };
+    read_header(text, from, to, entries)
 }
 
 // Reads a text into the entries that are lent: number and place, V, C and the entry count; the list and then zeros, or zeros alone.

@@ -1,29 +1,29 @@
 // The numbers of a text of tokens alone, as docs/RULES.md, "Claims", has it: found and read as those behind a header.
 ghost use Rattle.reader.specs.Next.{Finds};
 
-use crate::scan::{Wanted, find};
-use crate::token::{Entry, Token, token_of};
+use crate::scan::{find, is_blank};
+use crate::token::{Entry, token_of};
 
-// What stands next: nothing, a malformed token at a place, or a number from its first byte up to the byte behind it.
+// Where a number stands, from its first byte up to the byte behind it.
 #[derive(Clone, Copy)]
-pub enum Found {
-    TextEnd,
-    Malformed(usize),
-    Is(usize, usize, Entry),
+pub struct Spot {
+    pub from: usize,
+    pub to: usize,
+    pub entry: Entry,
 }
 
-// The next number from `at` on.
+// The next number from `at` on, if there is one, or the place of a malformed token.
 // Rules out: a comment passed over; a place behind the token for its first byte.
-pub fn next_number(text: &[u8], at: usize) -> Found
+pub fn next_number(text: &[u8], at: usize) -> Result<Option<Spot>, usize>
     ensures { Finds text.now at result }
 {
-    let from = find(text, Wanted::NoBlank, at);
+    let from = find(text, at, |b| !is_blank(b));
     if text.len() <= from {
-        return Found::TextEnd;
+        return Ok(None);
     }
-    let to = find(text, Wanted::Blank, from);
-    match token_of(&text[from..to]) {
-        Token::Malformed => Found::Malformed(from),
-        Token::Is(e) => Found::Is(from, to, e),
-    }
+    let to = find(text, from, is_blank);
+    let Some(entry) = token_of(&text[from..to]) else {
+        return Err(from);
+    };
+    Ok(Some(Spot { from, to, entry }))
 }

@@ -10,32 +10,23 @@ fn is_digit(b: u8) -> bool
 }
 
 // What a word says if it is read as a numeral.
-#[derive(Clone, Copy)]
-pub enum Number {
-    Malformed,
-    Is(u32),
-}
-
 // Rules out: ten digits as a number; 0 for an empty word.
 #[tactic(auto, using(crate::proofs::NumberLaws::not_number_long))]
-pub fn number_of(word: &[u8]) -> Number
+pub fn number_of(word: &[u8]) -> Option<u32>
     ensures { result ≡ number_of word.now }
 {
-    if word.len() == 0 {
-        return Number::Malformed;
+    if word.is_empty() {
+        return None;
     }
     if 9 < word.len() {
-        return Number::Malformed;
+        return None;
     }
     let mut n: u32 = 0;
-    let mut i = 0;
-    while i < word.len() {
-        let b = word[i];
-        if !is_digit(b) {
-            return Number::Malformed;
+    for b in word {
+        if !is_digit(*b) {
+            return None;
         }
-        n = 10 * n + (b - b'0') as u32;
-        i += 1;
+        n = 10 * n + u32::from(*b - b'0');
     }
-    Number::Is(n)
+    Some(n)
 }

@@ -3,7 +3,7 @@ ghost use Rattle.std.specs.Prelude.{◌≡◌, ◌≤◌};
 ghost use Rattle.texts.specs.Text.{entry_of};
 ghost use Rattle.reader.specs.Words.{token_of, signed_token, max_number, value_of};
 
-use crate::number::{Number, number_of};
+use crate::number::number_of;
 
 // A number with a minus or without. 0 closes a clause; any other number is a literal's variable.
 #[derive(Clone, Copy)]
@@ -12,36 +12,24 @@ pub struct Entry {
     pub number: u32,
 }
 
-// What a word says if it is read as a token.
-#[derive(Clone, Copy)]
-pub enum Token {
-    Malformed,
-    Is(Entry),
-}
-
-fn signed(minus: bool, n: Number) -> Token
+fn signed(minus: bool, n: Option<u32>) -> Option<Entry>
     ensures { result ≡ signed_token minus n }
 {
-    let Number::Is(number) = n else {
-        return Token::Malformed;
-    };
+    let number = n?;
     if minus && number == 0 {
-        return Token::Malformed;
+        return None;
     }
-    Token::Is(Entry { minus, number })
+    Some(Entry { minus, number })
 }
 
+// What a word says if it is read as a token.
 // Rules out: `-0` as an entry; `1x` as 1.
-pub fn token_of(word: &[u8]) -> Token
+pub fn token_of(word: &[u8]) -> Option<Entry>
     ensures { result ≡ token_of (entry_of word.now) }
 {
-    if word.len() == 0 {
-        return Token::Malformed;
-    }
-    if word[0] == b'-' {
-        signed(true, number_of(&word[1..]))
-    } else {
-        signed(false, number_of(word))
+    match word {
+        [b'-', digits @ ..] => signed(true, number_of(digits)),
+        _ => signed(false, number_of(word)),
     }
 }
 

@@ -7,10 +7,10 @@ ghost use Rattle.reader.specs.Steps.{entry_step, Steps, start, left};
 ghost use Rattle.reader.specs.Stores.{Stores};
 
 use crate::answer::refused;
-use crate::header::{Header, is_word};
-use crate::scan::{Wanted, find};
+use crate::header::Header;
+use crate::scan::{find, is_blank};
 use crate::skip::next_token;
-use crate::token::{Entry, Token, token_of, value_of};
+use crate::token::{Entry, token_of, value_of};
 use rules::{MAX_ENTRIES, ReadAnswer, Reading};
 
 // Where the reading stands: its next byte, the clauses complete and the entries stored.
@@ -21,27 +21,25 @@ pub struct Cursor {
     pub entries: usize,
 }
 
-// What comes next.
-#[derive(Clone, Copy)]
-pub enum Step {
-    Refused(ReadAnswer),
-    TextEnd,
-    Store(i32, Cursor),
-}
-
-// The entry that stands from `from` up to `to`: 6, 7, 8, or it is stored.
-fn judge_entry(h: Header, c: Cursor, from: usize, to: usize, e: Entry) -> Step
+// The entry that stands from `from` up to `to`: 6, 7, 8, or it is stored, and the cursor behind it.
+fn judge_entry(
+    h: Header,
+    c: Cursor,
+    from: usize,
+    to: usize,
+    e: Entry,
+) -> Result<Option<(i32, Cursor)>, ReadAnswer>
     requires { h.vars ≤ max_vars }
     ensures { result ≡ entry_step h c from to (value_of e) }
 {
     if h.clauses <= c.clauses {
-        return Step::Refused(ReadAnswer::TokenBehind(from));
+        return Err(ReadAnswer::TokenBehind(from));
     }
     if h.vars < e.number {
-        return Step::Refused(ReadAnswer::TokenOverVars(from));
+        return Err(ReadAnswer::TokenOverVars(from));
     }
     if MAX_ENTRIES <= c.entries {
-        return Step::Refused(ReadAnswer::ManyTokens(from));
+        return Err(ReadAnswer::ManyTokens(from));
     }
     let mut clauses = c.clauses;
     if e.number == 0 {
@@ -52,21 +50,18 @@ fn judge_entry(h: Header, c: Cursor, from: usize, to: usize, e: Entry) -> Step
         clauses,
         entries: c.entries + 1,
     };
-    Step::Store(value_of(e), next)
+    Ok(Some((value_of(e), next)))
 }
 
 // Whether a token is a `%` behind the last clause: then nothing behind it is read.
 fn ends_text(h: Header, c: Cursor, word: &[u8]) -> bool
     ensures { result ≡ ends_text (sizes h) c.clauses word.now }
 {
-    if !is_word(word, b"%") {
-        return false;
-    }
-    h.clauses <= c.clauses
+    word == b"%".as_slice() && h.clauses <= c.clauses
 }
 
-// The next token, or the end of text.
-fn next_step(text: &[u8], h: Header, c: Cursor) -> Step
+// The next entry and the cursor behind it, or the end of text.
+fn next_step(text: &[u8], h: Header, c: Cursor) -> Result<Option<(i32, Cursor)>, ReadAnswer>
     requires { h.vars ≤ max_vars }
     ensures { Steps h text.now c result }
 {
@@ -74,18 +69,18 @@ fn next_step(text: &[u8], h: Header, c: Cursor) -> Step
     let from = next_token(text, at);
     if text.len() <= from {
         if c.clauses < h.clauses {
-            return Step::Refused(ReadAnswer::ShortText(text.len()));
+            return Err(ReadAnswer::ShortText(text.len()));
         }
-        return Step::TextEnd;
+        return Ok(None);
     }
-    let to = find(text, Wanted::Blank, from);
+    let to = find(text, from, is_blank);
     if ends_text(h, c, &text[from..to]) {
-        return Step::TextEnd;
+        return Ok(None);
     }
-    match token_of(&text[from..to]) {
-        Token::Malformed => Step::Refused(ReadAnswer::BadToken(from)),
-        Token::Is(e) => judge_entry(h, c, from, to, e),
-    }
+    let Some(e) = token_of(&text[from..to]) else {
+        return Err(ReadAnswer::BadToken(from));
+    };
+    judge_entry(h, c, from, to, e)
 }
 
 // Stores the entries that stand from `from` on.
@@ -102,10 +97,10 @@ pub fn read_tokens(text: &[u8], h: Header, from: usize, entries: &mut [i32]) -> 
     };
     loop {
         match next_step(text, h, c) {
-            Step::Refused(a) => {
+            Err(a) => {
                 return refused(a);
             }
-            Step::TextEnd => {
+            Ok(None) => {
                 return Reading {
                     answer: ReadAnswer::Accepted,
                     vars: h.vars,
@@ -113,7 +108,7 @@ pub fn read_tokens(text: &[u8], h: Header, from: usize, entries: &mut [i32]) -> 
                     entries: c.entries,
                 };
             }
-            Step::Store(x, next) => {
+            Ok(Some((x, next))) => {
                 let n = c.entries;
                 entries[n] = x;
                 c = next;

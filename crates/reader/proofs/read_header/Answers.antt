@@ -15,21 +15,21 @@ returns-in_default c =
 
 pub returns-then-h-gt-MAX_VARS : goal.returns-then-h-gt-MAX_VARS
 returns-then-h-gt-MAX_VARS c =
-    let large : fits (sizes c.in-Is.h) ≡ false =
-    let h = c.in-Is.h in
+    let large : fits (sizes c.in-Some.h) ≡ false =
+    let h = c.in-Some.h in
     elim c.then-h-gt-MAX_VARS.branch [
       | goal.then-h-gt-MAX_VARS-via-then-h-gt-MAX_VARS w ↦ large_vars h w.if-h-gt-MAX_VARS.true
       | goal.then-h-gt-MAX_VARS-via-else-h-gt-MAX_VARS+then-h-gt-MAX_CLAUSES w ↦ large_clauses h w.if-h-gt-MAX_CLAUSES.true
     ] in
     stores_refused c.args.entries.now
-    (line_large c.args.text.now c.args.from c.args.to c.in-Is.h
-    (sym c.header_of.ensures ∙ c.in-Is.is) large)
+    (line_large c.args.text.now c.args.from c.args.to c.in-Some.h
+    (sym c.header_of.ensures ∙ c.in-Some.is) large)
     c.refused-then-h-gt-MAX_VARS.ensures
 
 pub returns : goal.returns
 returns c =
-    let small : fits (sizes c.in-Is.h) ≡ true = small_both c.in-Is.h c.if-h-gt-MAX_VARS.false c.if-h-gt-MAX_CLAUSES.false in
+    let small : fits (sizes c.in-Some.h) ≡ true = small_both c.in-Some.h c.if-h-gt-MAX_VARS.false c.if-h-gt-MAX_CLAUSES.false in
     stores_of
-    (line_fits c.args.text.now c.args.from c.args.to c.in-Is.h
-    (sym c.header_of.ensures ∙ c.in-Is.is) small c.requires.0 c.requires.1)
+    (line_fits c.args.text.now c.args.from c.args.to c.in-Some.h
+    (sym c.header_of.ensures ∙ c.in-Some.is) small c.requires.0 c.requires.1)
     c.read_tokens.ensures

@@ -6,19 +6,19 @@ use Rattle.reader.proofs.read_text.Goals as goal
 
 pub read_header-requires : goal.read_header-requires
 read_header-requires c =
-    let line = sym c.first_line.ensures ∙ c.in-At.is in
-    let w = line_inside c.args.text.now c.in-At.from c.in-At.to line in
+    let line = sym c.first_line.ensures ∙ c.in-Some.is in
+    let w = line_inside c.args.text.now c.in-Some.from c.in-Some.to line in
     (w.ends, w.most, c.requires)
 
-pub returns-in-Missing : goal.returns-in-Missing
-returns-in-Missing c =
+pub returns-in_default : goal.returns-in_default
+returns-in_default c =
     stores_refused c.args.entries.now
-    (text_missing c.args.text.now (sym c.first_line.ensures ∙ c.in-Missing.is))
+    (text_missing c.args.text.now (sym c.first_line.ensures ∙ c.in_default.is))
     c.refused.ensures
 
-pub returns-in-At : goal.returns-in-At
-returns-in-At c =
+pub returns : goal.returns
+returns c =
     stores_of
-    (text_line c.args.text.now c.in-At.from c.in-At.to
-    (sym c.first_line.ensures ∙ c.in-At.is))
+    (text_line c.args.text.now c.in-Some.from c.in-Some.to
+    (sym c.first_line.ensures ∙ c.in-Some.is))
     c.read_header.ensures

@@ -8,9 +8,8 @@ use lib.IntN.{ℤ}
 use mir.Syntax.{w32}
 use mir.Val.{to_z, of_z}
 use Rattle.rules.specs.Lists.{count_if, is_zero}
-use Rattle.reader.specs.declared.tokens.Step.{Step}
 use Rattle.reader.specs.Words.{value_of}
-use Rattle.reader.proofs.StepLaws.{var_is, zero_is, value_back}
+use Rattle.reader.proofs.StepLaws.{var_is, zero_is, value_back, stored}
 use Rattle.reader.proofs.tokens.judge_entry.Goals as goal
 
 pub returns-then-h-c : goal.returns-then-h-c
@@ -34,5 +33,5 @@ returns c =
       | goal.else-e-eq0 w ↦ rw (zero_is e, ne_eqb _ _ w.if-e-eq0.false) w.clauses-is
     ] in
     rw (var_is c.args.e, lt-leb _ _ c.if-h-c.false, le-ltb _ _ c.if-h-e.false, lt-leb _ _ c.if-c-ge-MAX_ENTRIES.false)
-    (ap₂ (λ (l : ℤ) (k : ℕ). Step.Store l (record { at = c.args.to; clauses = k; entries = c.args.c.entries + 1 }))
+    (ap₂ (λ (l : ℤ) (k : ℕ). stored l (record { at = c.args.to; clauses = k; entries = c.args.c.entries + 1 }))
     (ap (λ (l : ℤ). to_z w32 (of_z w32 l)) c.value_of.ensures ∙ value_back c.args.e (omega (arith, c.if-h-e.false, c.requires))) closes)
