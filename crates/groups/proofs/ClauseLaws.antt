@@ -2,6 +2,7 @@
 --
 --   clausing_start, clausing_far, clausing_next, clausing_step     so many entries are read, and stored if there is room
 --   clausing_refused, clausing_short, clausing_done     the ways it ends
+--   stepped           a step where the entry is stored as the machine holds it
 --
 -- Assumes nothing.
 use mathlib.Core.Path.{◌≡◌, refl, sym, ◌∙◌, ap}
@@ -14,10 +15,13 @@ use lib.Dec.{ltb}
 use lib.IntN.{ℤ}
 use lib.ListN.{length, take, drop, length-append, length-set}
 use lib.Seq.{take-suc-set, drop-set-lt}
+use mir.Syntax.{w32}
+use mir.Val.{to_z, of_z}
 use borrow.Author.Tests.{ltb-true, lt-ltb, eq-eqb, ne_eqb}
+use Rattle.std.specs.Prelude.{Option, Some, None, Result, Ok, Err}
 use Rattle.rules.specs.declared.GroupsAnswer.{GroupsAnswer}
 use Rattle.rules.specs.Lists.{count, count_if, is_zero}
-use Rattle.rules.specs.Numbers.{max_entries}
+use Rattle.rules.specs.Numbers.{max_vars, max_entries}
 use Rattle.rules.specs.Meaning.{var_of}
 use Rattle.texts.specs.Groups.{vars_in}
 use Rattle.texts.specs.GroupsReading.{Part, entries_due, refused, judge_end}
@@ -25,10 +29,9 @@ use Rattle.texts.specs.GroupsRefusals.{Fits, entry}
 use Rattle.rules.proofs.ListLaws.{count_append}
 use Rattle.reader.specs.declared.token.Entry.{Entry}
 use Rattle.reader.specs.Words.{value_of}
-use Rattle.reader.proofs.StepLaws.{var_is, zero_is}
+use Rattle.reader.proofs.StepLaws.{var_is, zero_is, value_back}
 use Rattle.groups.specs.declared.step.Due.{Due}
-use Rattle.groups.specs.declared.step.Step.{Step}
-use Rattle.groups.specs.Steps.{due_of, left_at, Taken, Steps}
+use Rattle.groups.specs.Steps.{due_of, left_at, Step, Taken, Steps}
 use Rattle.groups.specs.Clauses.{set_if, stored_if, Clausing, Complete}
 use Rattle.groups.proofs.StepLaws.{step_says}
 
@@ -80,18 +83,18 @@ module _ {text : List ℕ} {at vars clauses base : ℕ} {before : List ℤ} {to 
   due_is : (ss : List ℕ) → vars_in ss ≡ vars → due_of (due ss) ≡ Due.Entry vars clauses complete
   due_is ss e = rw (e, w.complete_are)
 
-  pub clausing_refused : (a : GroupsAnswer) → r ≡ Step.Refused a → (ss : List ℕ) → vars_in ss ≡ vars
+  pub clausing_refused : (a : GroupsAnswer) → r ≡ Err a → (ss : List ℕ) → vars_in ss ≡ vars
       → left_at text (entries_due ss clauses []) at ≡ refused a
-  clausing_refused a e ss v = w.judged ss v ∙ step_says (Step.Refused a) s e (due ss) (due_is ss v)
+  clausing_refused a e ss v = w.judged ss v ∙ step_says (Err a) s e (due ss) (due_is ss v)
 
-  ended : r ≡ Step.TextEnd → (ss : List ℕ) → vars_in ss ≡ vars → left_at text (entries_due ss clauses []) at ≡ judge_end (length text) (due ss)
-  ended e ss v = w.judged ss v ∙ step_says Step.TextEnd s e (due ss) (due_is ss v)
+  ended : r ≡ Ok None → (ss : List ℕ) → vars_in ss ≡ vars → left_at text (entries_due ss clauses []) at ≡ judge_end (length text) (due ss)
+  ended e ss v = w.judged ss v ∙ step_says (Ok None) s e (due ss) (due_is ss v)
 
-  pub clausing_short : r ≡ Step.TextEnd → complete < clauses → (ss : List ℕ) → vars_in ss ≡ vars
+  pub clausing_short : r ≡ Ok None → complete < clauses → (ss : List ℕ) → vars_in ss ≡ vars
       → left_at text (entries_due ss clauses []) at ≡ refused (GroupsAnswer.ShortText (length text))
   clausing_short e h ss v = ended e ss v ∙ rw (lt-ltb (count is_zero w.read) clauses (omega (arith, w.complete_are)))
 
-  pub clausing_done : r ≡ Step.TextEnd → clauses ≤ complete → Complete text at vars clauses base before n now
+  pub clausing_done : r ≡ Ok None → clauses ≤ complete → Complete text at vars clauses base before n now
   clausing_done e h =
       record {
         read = w.read;
@@ -101,9 +104,9 @@ module _ {text : List ℕ} {at vars clauses base : ℕ} {before : List ℤ} {to 
         stored = w.stored;
       }
 
-  module _ (next : ℕ) (e : Entry) (q : r ≡ Step.Is next e) where
+  module _ (next : ℕ) (e : Entry) (q : r ≡ Ok (Some (next, e))) where
     taken : (ss : List ℕ) → vars_in ss ≡ vars → Taken text (due ss) to next (value_of e)
-    taken ss v = step_says (Step.Is next e) s q (due ss) (due_is ss v)
+    taken ss v = step_says (Ok (Some (next, e))) s q (due ss) (due_is ss v)
 
     -- the number of its variable, and room for one more clause
     pub clausing_next : (e.number ≤ vars) × (complete < clauses) × (to < next) × (next ≤ length text)
@@ -142,3 +145,15 @@ complete_zero e n h = rw (zero_is e, eq-eqb e.number 0 h) (add-one n)
 
 pub complete_other : (e : Entry) (n : ℕ) → (e.number ≡ 0 → ⊥) → n ≡ count_if (is_zero (value_of e)) n
 complete_other e n h = rw (zero_is e, ne_eqb e.number 0 h)
+
+-- the step of the loop, where the entry is stored as the machine holds it
+module _ {text : List ℕ} {at vars clauses base : ℕ} {before : List ℤ} {to complete n : ℕ} {now : List ℤ}
+    (w : Clausing text at vars clauses base before to complete n now) {r : Step} (s : Steps text to (Due.Entry vars clauses complete) r)
+    (next : ℕ) (e : Entry) (q : r ≡ Ok (Some (next, e))) where
+  pub stepped : max_entries ≤ length now → vars ≤ max_vars → {x : ℤ} → x ≡ value_of e → {after : List ℤ} → after ≡ stored_if n (to_z w32 (of_z w32 x)) now
+      → {complete' : ℕ} → complete' ≡ count_if (is_zero (value_of e)) complete
+      → Clausing text at vars clauses base before next complete' (n + 1) after
+  stepped room small {x} v stored more =
+      let facts = clausing_next w s next e q in
+      let back : to_z w32 (of_z w32 x) ≡ value_of e = ap (λ (z : ℤ). to_z w32 (of_z w32 z)) v ∙ value_back e (omega (arith, facts.0, small)) in
+      clausing_step w s next e q room (stored ∙ ap (λ (z : ℤ). stored_if n z now) back) more

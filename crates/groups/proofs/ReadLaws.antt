@@ -23,6 +23,7 @@ use lib.ListN.{length, take, drop, replicate, length-append}
 use lib.Seq.{length-sets, sets-eq, take_at, length-take-le, drop-append-add, drop-drop}
 use borrow.Author.Tests.{ltb-false, lt-ltb, le-ltb}
 use borrow.Rule.Slice.PartMut.{mid_of, put_mid, mid_len, Post-is}
+use Rattle.std.specs.Prelude.{Result, Ok, Err}
 use Rattle.rules.specs.declared.GroupsAnswer.{GroupsAnswer}
 use Rattle.rules.specs.declared.GroupsReading.{GroupsReading}
 use Rattle.rules.specs.Lists.{all, count, Check, or_next, first_of, is_zero}
@@ -39,9 +40,7 @@ use Rattle.texts.specs.GroupsReading.{groups_sizes_after, ReadsGroups}
 use Rattle.rules.proofs.ListLaws.{and_left, and_right}
 use Rattle.reader.specs.Stores.{cleared}
 use Rattle.held.specs.Stored.{Fits, Stored}
-use Rattle.groups.specs.Steps.{left_at, Sizing, JudgesSizes, SizesAt}
-use Rattle.groups.specs.declared.clauses.Ended.{Ended}
-use Rattle.groups.specs.declared.sizes.Counted.{Counted}
+use Rattle.groups.specs.Steps.{left_at, Counted, Sizing, JudgesSizes, SizesAt}
 use Rattle.groups.specs.Clauses.{Complete, JudgesClauses, ClausesAt}
 use Rattle.groups.specs.Counts.{SizesSmall}
 use Rattle.groups.proofs.CountLaws.{clauses_le, entries_are}
@@ -107,16 +106,16 @@ pub list_refused : {j : GroupsJudged} {a : GroupsAnswer} {before after : List �
     → {r : GroupsReading} → r ≡ groups_returned (refused a) → ListStores j before r after
 list_refused e d q = rw e (record { result_is = q; list_is = refl; most = omega arith; rest_is = d })
 
-pub clauses_refused : {text : List ℕ} {at vars clauses base : ℕ} {before : List ℤ} {r : Ended} {after : List ℤ}
-    → ClausesAt text at vars clauses base before r after → (a : GroupsAnswer) → r ≡ Ended.Refused a → (ss : List ℕ) → vars_in ss ≡ vars
+pub clauses_refused : {text : List ℕ} {at vars clauses base : ℕ} {before : List ℤ} {r : Result ℕ GroupsAnswer} {after : List ℤ}
+    → ClausesAt text at vars clauses base before r after → (a : GroupsAnswer) → r ≡ Err a → (ss : List ℕ) → vars_in ss ≡ vars
     → left_at text (entries_due ss clauses []) at ≡ refused a
 clauses_refused {text} {at} {vars} {clauses} {base} {before} {r} {after} w a e =
-    subst (λ (x : Ended). JudgesClauses text at vars clauses base before x after) e w.judges
+    subst (λ (x : Result ℕ GroupsAnswer). JudgesClauses text at vars clauses base before x after) e w.judges
 
-pub clauses_complete : {text : List ℕ} {at vars clauses base : ℕ} {before : List ℤ} {r : Ended} {after : List ℤ}
-    → ClausesAt text at vars clauses base before r after → (n : ℕ) → r ≡ Ended.With n → Complete text at vars clauses base before n after
+pub clauses_complete : {text : List ℕ} {at vars clauses base : ℕ} {before : List ℤ} {r : Result ℕ GroupsAnswer} {after : List ℤ}
+    → ClausesAt text at vars clauses base before r after → (n : ℕ) → r ≡ Ok n → Complete text at vars clauses base before n after
 clauses_complete {text} {at} {vars} {clauses} {base} {before} {r} {after} w n e =
-    subst (λ (x : Ended). JudgesClauses text at vars clauses base before x after) e w.judges
+    subst (λ (x : Result ℕ GroupsAnswer). JudgesClauses text at vars clauses base before x after) e w.judges
 
 module _ {text ss : List ℕ} {at vars clauses base : ℕ} {before between after : List ℤ} {n : ℕ}
     (v : vars_in ss ≡ vars) (base_is : base ≡ length (entries_of (groups_from 0 ss))) (p : Placed ss before between)
@@ -198,11 +197,11 @@ keeps_sizes end ss (t ∷ ts) = go (entry_of t.bytes)
         (keeps_entries end ss (var_of l) [] ts)
 
 pub sizes_refused : {text : List ℕ} {at groups : ℕ} {before : List ℕ} {r : Counted} {after : List ℕ} → SizesAt text at groups before r after
-    → (a : GroupsAnswer) → r ≡ Counted.Refused a → left_at text (sizes_due groups []) at ≡ refused a
+    → (a : GroupsAnswer) → r ≡ Err a → left_at text (sizes_due groups []) at ≡ refused a
 sizes_refused {text} {at} {groups} {before} {r} {after} w a e = subst (JudgesSizes text at groups before after) e w.judges
 
 pub sizes_counted : {text : List ℕ} {at groups : ℕ} {before : List ℕ} {r : Counted} {after : List ℕ} → SizesAt text at groups before r after
-    → (to vars : ℕ) → r ≡ Counted.Is to vars → Sizing text at groups before groups to vars after
+    → (to vars : ℕ) → r ≡ Ok (to, vars) → Sizing text at groups before groups to vars after
 sizes_counted {text} {at} {groups} {before} {r} {after} w to vars e = subst (JudgesSizes text at groups before after) e w.judges
 
 pub body_refused : {j : GroupsJudged} {a : GroupsAnswer} {before after : List ℕ} → j ≡ refused a → drop max_groups after ≡ drop max_groups before

@@ -13,6 +13,7 @@ use native.Mathlib.Numerals.{add-one}
 use lib.IntN.{pos}
 use lib.ListN.{length, set, take, length-set}
 use lib.Seq.{take-suc-set, drop-set-lt}
+use Rattle.std.specs.Prelude.{Option, Some, None, Result, Ok, Err}
 use Rattle.rules.specs.declared.GroupsAnswer.{GroupsAnswer}
 use Rattle.rules.specs.Lists.{In}
 use Rattle.rules.specs.Numbers.{max_vars}
@@ -20,9 +21,8 @@ use Rattle.texts.specs.Groups.{max_groups, max_size, vars_in}
 use Rattle.texts.specs.GroupsReading.{Part, sizes_due, refused}
 use Rattle.texts.specs.GroupsRefusals.{between, Fits, size}
 use Rattle.rules.proofs.ListLaws.{sum_of_append}
-use Rattle.groups.specs.declared.sizes.Counted.{Counted}
 use Rattle.groups.specs.declared.step.Due.{Due}
-use Rattle.groups.specs.Steps.{left_at, Taken, CountsAt, Sizing}
+use Rattle.groups.specs.Steps.{left_at, Taken, Counted, CountsAt, Sizing}
 use Rattle.groups.proofs.StepLaws.{counts_says}
 
 pub sizing_start : (text : List ℕ) (at groups : ℕ) (before : List ℕ) → at ≤ length text → Sizing text at groups before 0 at 0 before
@@ -53,12 +53,12 @@ module _ {text : List ℕ} {at groups : ℕ} {before : List ℕ} {i to vars : �
   here : left_at text (sizes_due groups []) at ≡ left_at text due to
   here = w.judged (suc (groups - (i + 1))) (omega arith)
 
-  pub sizing_refused : (a : GroupsAnswer) → r ≡ Counted.Refused a → left_at text (sizes_due groups []) at ≡ refused a
-  sizing_refused a e = here ∙ counts_says (Counted.Refused a) s e due (ap (λ (v : ℕ). Due.Size v) (sym w.vars_are))
+  pub sizing_refused : (a : GroupsAnswer) → r ≡ Err a → left_at text (sizes_due groups []) at ≡ refused a
+  sizing_refused a e = here ∙ counts_says (Err a) s e due (ap (λ (v : ℕ). Due.Size v) (sym w.vars_are))
 
-  module _ (next n : ℕ) (e : r ≡ Counted.Is next n) where
+  module _ (next n : ℕ) (e : r ≡ Ok (next, n)) where
     taken : Taken text due to next (pos n)
-    taken = counts_says (Counted.Is next n) s e due (ap (λ (v : ℕ). Due.Size v) (sym w.vars_are))
+    taken = counts_says (Ok (next, n)) s e due (ap (λ (v : ℕ). Due.Size v) (sym w.vars_are))
 
     pub sizing_size : (n ≤ max_size) × (vars + n ≤ max_vars)
     sizing_size = let (a, b) = size_fits taken.fits in (a, omega (arith, b, w.vars_are))

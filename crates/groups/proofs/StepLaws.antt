@@ -1,8 +1,8 @@
 -- The laws of src/step.rt and of a number that is counted (src/sizes.rt): a step says what rules judges of what is left.
 --
 --   judge_size_fits, rules_due    what is due, by what is counted
---   verdict_fits, verdict_refused     a verdict as a step
---   step_none, step_malformed, step_judged     the step at the end, at a token that says nothing, at a number
+--   verdict_fits, verdict_refused     a verdict by what is refused
+--   step_none, step_malformed, step_fits, step_refused     the step at the end, at a token that says nothing, at a number
 --   step_says         a step that is another
 --   counts_due, counts_refused, counts_end, counts_number, counts_says     a number of groups, of values or of clauses
 --   fits_groups, fits_count       how many there are at most
@@ -11,7 +11,8 @@
 use mathlib.Core.Path.{◌≡◌, refl, sym, ◌∙◌, ap, subst}
 use mathlib.Core.Bool.{Bool, true, false, not}
 use mathlib.Core.List.{List, [], ◌∷◌}
-use mathlib.Core.Option.{Option, none, some}
+use mathlib.Core.Option.{none, some}
+use mathlib.Core.Option.{Option as Maybe}
 use Prim.Native.Nat.{ℕ, zero, suc, ◌+◌, ◌≤◌}
 use lib.Dec.{leb, ltb}
 use lib.IntN.{ℤ, pos}
@@ -30,14 +31,12 @@ use Rattle.texts.proofs.GroupsJudged.{between_sound}
 use Rattle.reader.specs.declared.token.Entry.{Entry}
 use Rattle.reader.specs.Words.{value_of}
 use Rattle.reader.proofs.StepLaws.{var_is}
-use Rattle.groups.specs.declared.judge.Verdict.{Verdict}
-use Rattle.reader.specs.declared.next.Found.{Found}
-use Rattle.groups.specs.declared.sizes.Counted.{Counted}
+use Rattle.std.specs.Prelude.{Option, Some, None, Result, Ok, Err}
+use Rattle.reader.specs.declared.next.Spot.{Spot}
 use Rattle.groups.specs.declared.step.Due.{Due}
-use Rattle.groups.specs.declared.step.Step.{Step}
 use Rattle.reader.specs.Next.{bytes_at, Next, Finds, no_token, malformed, number}
 use Rattle.groups.specs.Stages.{verdict_of}
-use Rattle.groups.specs.Steps.{due_of, due_rules, DueFits, step_if, Taken, Judges, Steps, Counts, JudgesCount, CountsAt}
+use Rattle.groups.specs.Steps.{due_of, due_rules, DueFits, Step, step_if, Taken, Judges, Steps, Counted, Counts, JudgesCount, CountsAt}
 
 -- ---- what is due
 
@@ -50,15 +49,14 @@ rules_due (sizes_due zero ss) at l = refl
 rules_due (sizes_due (suc n) ss) at l = refl
 rules_due (entries_due ss c es) at l = refl
 
--- a verdict as a step
-pub verdict_fits : (o : Option GroupsAnswer) (to : ℕ) (e : Entry) {v : Verdict} → v ≡ verdict_of o → v ≡ Verdict.Fits → Step.Is to e ≡ step_if o to e
-verdict_fits none to e p q = refl
-verdict_fits (some a) to e p q = apart cc
+-- a verdict by what is refused
+pub verdict_fits : (o : Maybe GroupsAnswer) → verdict_of o ≡ Ok tt → o ≡ none
+verdict_fits none e = refl
+verdict_fits (some a) e = apart cc
 
-pub verdict_refused : (o : Option GroupsAnswer) (to : ℕ) (e : Entry) {v : Verdict} (a : GroupsAnswer) → v ≡ verdict_of o → v ≡ Verdict.Refused a
-    → Step.Refused a ≡ step_if o to e
-verdict_refused none to e a p q = apart cc
-verdict_refused (some b) to e a p q = let z : Verdict.Refused a ≡ Verdict.Refused b = sym q ∙ p in cc
+pub verdict_refused : (o : Maybe GroupsAnswer) (a : GroupsAnswer) → verdict_of o ≡ Err a → o ≡ some a
+verdict_refused none a e = apart cc
+verdict_refused (some b) a e = cc
 
 -- ---- a number with nothing to refuse
 
@@ -89,64 +87,50 @@ fits_of (entries_due ss c es) at l h =
 
 -- ---- the step
 
-module _ {text : List ℕ} {at : ℕ} (due : Due) {f : Found} (w : Finds text at f) where
-  pub step_none : f ≡ Found.TextEnd → Steps text at due Step.TextEnd
+module _ {text : List ℕ} {at : ℕ} (due : Due) where
+  pub step_none : Finds text at (Ok None) → Steps text at due (Ok None)
   unfolding judge_parts
-  step_none e = go w e
-    where
-      go : {g : Found} → Finds text at g → g ≡ Found.TextEnd → Steps text at due Step.TextEnd
-      go (no_token h) q = record { judges = λ p d. ap (judge_parts (length text) p) h }
-      go (malformed to n h) q = apart cc
-      go (number n h m) q = apart cc
+  step_none (no_token h) = record { judges = λ p d. ap (judge_parts (length text) p) h }
 
-  pub step_malformed : (from : ℕ) → f ≡ Found.Malformed from → Steps text at due (Step.Refused (GroupsAnswer.BadToken from))
+  pub step_malformed : (from : ℕ) → Finds text at (Err from) → Steps text at due (Err (GroupsAnswer.BadToken from))
   unfolding judge_parts
-  step_malformed from e = go w e
-    where
-      go : {g : Found} → Finds text at g → g ≡ Found.Malformed from → Steps text at due (Step.Refused (GroupsAnswer.BadToken from))
-      go (no_token h) q = apart cc
-      go (malformed {from = other} to n h) q =
-          let same : other ≡ from = cc in
-          record { judges = λ p d. ap (judge_parts (length text) p) n.tokens ∙ rw (h, same) }
-      go (number n h m) q = apart cc
+  step_malformed from (malformed to n h) = record { judges = λ p d. ap (judge_parts (length text) p) n.tokens ∙ rw h }
 
-  pub step_judged : (from to : ℕ) (e : Entry) → f ≡ Found.Is from to e → (step : Step) → step ≡ step_if (first_of (due_rules due from (value_of e))) to e
-      → Steps text at due step
-  unfolding judge_parts
-  step_judged from to e q step s = go w q
-    where
-      here : Next text at from to → entry_of (bytes_at text from to) ≡ some (value_of e) → (o : Option GroupsAnswer)
-          → first_of (due_rules due from (value_of e)) ≡ o → Steps text at due (step_if o to e)
-      here n h none r =
-          record {
-            judges =
-                λ p d.
-                let ok : first_of (number_rules p from (value_of e)) ≡ none =
-                ap first_of (rules_due p from (value_of e)) ∙ ap (λ (x : Due). first_of (due_rules x from (value_of e))) d ∙ r in
-                record {
-                  judged = ap (judge_parts (length text) p) n.tokens ∙ rw (h, ok);
-                  fits = fits_of p from (value_of e) ok;
-                  onward = n.onward;
-                  within = n.within;
-                };
-          }
-      here n h (some a) r =
-          record {
-            judges =
-                λ p d.
-                let no : first_of (number_rules p from (value_of e)) ≡ some a =
-                ap first_of (rules_due p from (value_of e)) ∙ ap (λ (x : Due). first_of (due_rules x from (value_of e))) d ∙ r in
-                ap (judge_parts (length text) p) n.tokens ∙ rw (h, no);
-          }
+  module _ (s : Spot) (w : Finds text at (Ok (Some s))) where
+    rules_at : (p : Part) → due_of p ≡ due → (o : Maybe GroupsAnswer) → first_of (due_rules due s.from (value_of s.entry)) ≡ o
+        → first_of (number_rules p s.from (value_of s.entry)) ≡ o
+    rules_at p d o r = ap first_of (rules_due p s.from (value_of s.entry)) ∙ ap (λ (x : Due). first_of (due_rules x s.from (value_of s.entry))) d ∙ r
 
-      go : {g : Found} → Finds text at g → g ≡ Found.Is from to e → Steps text at due step
-      go (no_token h) z = apart cc
-      go (malformed t n h) z = apart cc
-      go (number {from = u} {to = v} {e = x} n h m) z =
-          let a : u ≡ from = cc in
-          let b : v ≡ to = cc in
-          let c : x ≡ e = cc in
-          subst (λ (y : Step). Steps text at due y) (sym s) (here (rw (a, b) at n) (rw (a, b, c) at h) (first_of (due_rules due from (value_of e))) refl)
+    pub step_fits : verdict_of (first_of (due_rules due s.from (value_of s.entry))) ≡ Ok tt → Steps text at due (Ok (Some (s.to, s.entry)))
+    unfolding judge_parts
+    step_fits v = go w
+      where
+        go : Finds text at (Ok (Some s)) → Steps text at due (Ok (Some (s.to, s.entry)))
+        go (number n h m) =
+            record {
+              judges =
+                  λ p d.
+                  let ok : first_of (number_rules p s.from (value_of s.entry)) ≡ none = rules_at p d none (verdict_fits _ v) in
+                  record {
+                    judged = ap (judge_parts (length text) p) n.tokens ∙ rw (h, ok);
+                    fits = fits_of p s.from (value_of s.entry) ok;
+                    onward = n.onward;
+                    within = n.within;
+                  };
+            }
+
+    pub step_refused : (a : GroupsAnswer) → verdict_of (first_of (due_rules due s.from (value_of s.entry))) ≡ Err a → Steps text at due (Err a)
+    unfolding judge_parts
+    step_refused a v = go w
+      where
+        go : Finds text at (Ok (Some s)) → Steps text at due (Err a)
+        go (number n h m) =
+            record {
+              judges =
+                  λ p d.
+                  let no : first_of (number_rules p s.from (value_of s.entry)) ≡ some a = rules_at p d (some a) (verdict_refused _ a v) in
+                  ap (judge_parts (length text) p) n.tokens ∙ rw (h, no);
+            }
 
 pub step_says : {text : List ℕ} {at : ℕ} {due : Due} {r : Step} (s : Step) → Steps text at due r → r ≡ s → (p : Part) → due_of p ≡ due → Judges text p at s
 step_says {text} {at} s w e p d = subst (Judges text p at) e (w.judges p d)
@@ -174,18 +158,18 @@ end_short end (sizes_due n ss) c = refl
 end_short end (entries_due ss k es) c = absurd c
 
 module _ {text : List ℕ} {at : ℕ} {due : Due} {r : Step} (c : Counts due) (w : Steps text at due r) where
-  pub counts_refused : (a : GroupsAnswer) → r ≡ Step.Refused a → CountsAt text at due (Counted.Refused a)
-  counts_refused a e = record { judges = λ p d. step_says (Step.Refused a) w e p d }
+  pub counts_refused : (a : GroupsAnswer) → r ≡ Err a → CountsAt text at due (Err a)
+  counts_refused a e = record { judges = λ p d. step_says (Err a) w e p d }
 
-  pub counts_end : r ≡ Step.TextEnd → CountsAt text at due (Counted.Refused (GroupsAnswer.ShortText (length text)))
-  counts_end e = record { judges = λ p d. step_says Step.TextEnd w e p d ∙ end_short (length text) p (subst Counts (sym d) c) }
+  pub counts_end : r ≡ Ok None → CountsAt text at due (Err (GroupsAnswer.ShortText (length text)))
+  counts_end e = record { judges = λ p d. step_says (Ok None) w e p d ∙ end_short (length text) p (subst Counts (sym d) c) }
 
-  pub counts_number : (to : ℕ) (e : Entry) → r ≡ Step.Is to e → CountsAt text at due (Counted.Is to e.number)
+  pub counts_number : (to : ℕ) (e : Entry) → r ≡ Ok (Some (to, e)) → CountsAt text at due (Ok (to, e.number))
   counts_number to e q =
       record {
         judges =
             λ p d.
-            let t = step_says (Step.Is to e) w q p d in
+            let t = step_says (Ok (Some (to, e))) w q p d in
             subst (Taken text p at to) (fits_pos p (subst Counts (sym d) c) t.fits ∙ ap pos (var_is e)) t;
       }
 

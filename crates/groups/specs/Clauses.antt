@@ -1,10 +1,10 @@
 -- What src/clauses.rt reads and stores. Assumes nothing.
-use Rattle.std.specs.Prelude.{◌≡◌, Bool, true, false, List, [], ◌++◌, ℕ, ◌+◌, ◌≤◌, ltb, ℤ, length, set, take, drop}
+use Rattle.std.specs.Prelude.{◌≡◌, Bool, true, false, List, [], ◌++◌, ℕ, ◌+◌, ◌≤◌, ltb, ℤ, length, set, take, drop, Result, Ok, Err}
 use Rattle.rules.specs.Lists.{count, is_zero}
 use Rattle.rules.specs.Numbers.{max_entries}
 use Rattle.texts.specs.Groups.{vars_in}
 use Rattle.texts.specs.GroupsReading.{entries_due, refused, judge_end}
-use Rattle.groups.specs.declared.clauses.Ended.{Ended}
+use Rattle.rules.specs.declared.GroupsAnswer.{GroupsAnswer}
 use Rattle.groups.specs.Steps.{left_at}
 
 -- more entries than groups may have
@@ -39,11 +39,11 @@ pub record Complete (text : List ℕ) (at vars clauses base : ℕ) (before : Lis
   pub counted : n ≡ base + length read
   pub stored : n ≤ max_entries → take n after ≡ take base before ++ read
 
-abbrev pub JudgesClauses : List ℕ → ℕ → ℕ → ℕ → ℕ → List ℤ → Ended → List ℤ → Type 0
-JudgesClauses text at vars clauses base before (Ended.Refused a) after =
+abbrev pub JudgesClauses : List ℕ → ℕ → ℕ → ℕ → ℕ → List ℤ → Result ℕ GroupsAnswer → List ℤ → Type 0
+JudgesClauses text at vars clauses base before (Err a) after =
     (ss : List ℕ) → vars_in ss ≡ vars → left_at text (entries_due ss clauses []) at ≡ refused a
-JudgesClauses text at vars clauses base before (Ended.With n) after = Complete text at vars clauses base before n after
+JudgesClauses text at vars clauses base before (Ok n) after = Complete text at vars clauses base before n after
 
-pub record ClausesAt (text : List ℕ) (at vars clauses base : ℕ) (before : List ℤ) (ended : Ended) (after : List ℤ) : Type 0 where
+pub record ClausesAt (text : List ℕ) (at vars clauses base : ℕ) (before : List ℤ) (ended : Result ℕ GroupsAnswer) (after : List ℤ) : Type 0 where
   pub judges : JudgesClauses text at vars clauses base before ended after
   pub rest_is : drop max_entries after ≡ drop max_entries before

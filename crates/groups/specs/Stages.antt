@@ -1,6 +1,6 @@
 -- What src/judge.rt refuses of a number, by what is counted and not by what was read. That these are the rules of `rules` is a law. Assumes
 -- nothing.
-use Rattle.std.specs.Prelude.{not, List, [], ◌∷◌, ℕ, ◌+◌, leb, ltb, ℤ}
+use Rattle.std.specs.Prelude.{not, List, [], ◌∷◌, ℕ, ◌+◌, leb, ltb, ℤ, Result, Ok, Err}
 use Rattle.std.proofs.Math.Option.{Option, none, some}
 use Rattle.rules.specs.declared.GroupsAnswer.{GroupsAnswer}
 use Rattle.rules.specs.Lists.{Check, check}
@@ -8,11 +8,10 @@ use Rattle.rules.specs.Numbers.{max_vars, max_clauses}
 use Rattle.rules.specs.Meaning.{var_of}
 use Rattle.texts.specs.Groups.{max_groups, min_size, max_size}
 use Rattle.texts.specs.GroupsReading.{is_between}
-use Rattle.groups.specs.declared.judge.Verdict.{Verdict}
 
-abbrev pub verdict_of : Option GroupsAnswer → Verdict
-verdict_of none = Verdict.Fits
-verdict_of (some a) = Verdict.Refused a
+abbrev pub verdict_of : Option GroupsAnswer → Result (Unit {0}) GroupsAnswer
+verdict_of none = Ok tt
+verdict_of (some a) = Err a
 
 -- the number of groups
 abbrev pub group_rules : ℕ → ℤ → List (Check GroupsAnswer)

@@ -1,6 +1,6 @@
 -- What src/step.rt and src/sizes.rt say of what is left of a file. Assumes nothing.
-use Rattle.std.specs.Prelude.{◌≡◌, List, [], ℕ, zero, suc, ◌+◌, ◌≤◌, ◌<◌, ℤ, pos, length, take, drop}
-use Rattle.std.proofs.Math.Option.{Option, none, some}
+use Rattle.std.specs.Prelude.{◌≡◌, List, [], ℕ, zero, suc, ◌+◌, ◌≤◌, ◌<◌, ℤ, pos, length, take, drop, Option, Some, None, Result, Ok, Err}
+use Rattle.std.proofs.Math.Option.{Option as Maybe, none, some}
 use Rattle.rules.specs.declared.GroupsAnswer.{GroupsAnswer}
 use Rattle.rules.specs.Lists.{In, count, Check, is_zero}
 use Rattle.rules.specs.Numbers.{max_vars}
@@ -10,8 +10,6 @@ use Rattle.texts.specs.GroupsRefusals.{Fits}
 use Rattle.reader.specs.declared.token.Entry.{Entry}
 use Rattle.reader.specs.Words.{value_of}
 use Rattle.groups.specs.declared.step.Due.{Due}
-use Rattle.groups.specs.declared.step.Step.{Step}
-use Rattle.groups.specs.declared.sizes.Counted.{Counted}
 use Rattle.reader.specs.Next.{tokens_at}
 use Rattle.groups.specs.Stages.{group_rules, size_rules, count_rules, entry_rules}
 
@@ -36,9 +34,13 @@ DueFits (Due.Size vars) = vars ≤ max_vars
 DueFits Due.Count = Prim.Unit {0}
 DueFits (Due.Entry vars clauses complete) = Prim.Unit {0}
 
-abbrev pub step_if : Option GroupsAnswer → ℕ → Entry → Step
-step_if none to e = Step.Is to e
-step_if (some a) to e = Step.Refused a
+-- a refusal, the end of text, or a number that fits, up to the byte behind it
+abbrev pub Step : Type 0
+Step = Result (Option (ℕ × Entry)) GroupsAnswer
+
+abbrev pub step_if : Maybe GroupsAnswer → ℕ → Entry → Step
+step_if none to e = Ok (Some (to, e))
+step_if (some a) to e = Err a
 
 -- ---- what is left of a text from a place on, as rules judges it
 
@@ -53,15 +55,19 @@ pub record Taken (text : List ℕ) (p : Part) (at to : ℕ) (l : ℤ) : Type 0 w
   pub within : to ≤ length text
 
 abbrev pub Judges : List ℕ → Part → ℕ → Step → Type 0
-Judges text p at (Step.Refused a) = left_at text p at ≡ refused a
-Judges text p at Step.TextEnd = left_at text p at ≡ judge_end (length text) p
-Judges text p at (Step.Is to e) = Taken text p at to (value_of e)
+Judges text p at (Err a) = left_at text p at ≡ refused a
+Judges text p at (Ok None) = left_at text p at ≡ judge_end (length text) p
+Judges text p at (Ok (Some (to, e))) = Taken text p at to (value_of e)
 
 -- the step at a place, whatever part has this due
 pub record Steps (text : List ℕ) (at : ℕ) (due : Due) (step : Step) : Type 0 where
   pub judges : (p : Part) → due_of p ≡ due → Judges text p at step
 
 -- ---- a number of groups, of values or of clauses
+
+-- a refusal, or a number and the byte behind it
+abbrev pub Counted : Type 0
+Counted = Result (ℕ × ℕ) GroupsAnswer
 
 -- it is counted, and not one of the entries
 abbrev pub Counts : Due → Type 0
@@ -71,8 +77,8 @@ Counts Due.Count = Prim.Unit {0}
 Counts (Due.Entry vars clauses complete) = ⊥
 
 abbrev pub JudgesCount : List ℕ → Part → ℕ → Counted → Type 0
-JudgesCount text p at (Counted.Refused a) = left_at text p at ≡ refused a
-JudgesCount text p at (Counted.Is to n) = Taken text p at to (pos n)
+JudgesCount text p at (Err a) = left_at text p at ≡ refused a
+JudgesCount text p at (Ok (to, n)) = Taken text p at to (pos n)
 
 pub record CountsAt (text : List ℕ) (at : ℕ) (due : Due) (counted : Counted) : Type 0 where
   pub judges : (p : Part) → due_of p ≡ due → JudgesCount text p at counted
@@ -91,8 +97,8 @@ pub record Sizing (text : List ℕ) (at groups : ℕ) (before : List ℕ) (i to 
   pub within : to ≤ length text
 
 abbrev pub JudgesSizes : List ℕ → ℕ → ℕ → List ℕ → List ℕ → Counted → Type 0
-JudgesSizes text at groups before after (Counted.Refused a) = left_at text (sizes_due groups []) at ≡ refused a
-JudgesSizes text at groups before after (Counted.Is to vars) = Sizing text at groups before groups to vars after
+JudgesSizes text at groups before after (Err a) = left_at text (sizes_due groups []) at ≡ refused a
+JudgesSizes text at groups before after (Ok (to, vars)) = Sizing text at groups before groups to vars after
 
 pub record SizesAt (text : List ℕ) (at groups : ℕ) (before : List ℕ) (counted : Counted) (after : List ℕ) : Type 0 where
   pub judges : JudgesSizes text at groups before after counted

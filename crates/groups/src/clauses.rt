@@ -4,16 +4,9 @@ ghost use Rattle.std.specs.Prelude.{◌≡◌, ◌≤◌, length};
 ghost use Rattle.rules.specs.Numbers.{max_text, max_vars, max_entries};
 ghost use Rattle.groups.specs.Clauses.{max_base, stored_if, ClausesAt};
 
-use crate::step::{Due, Step, next_step};
+use crate::step::{Due, next_step};
 use reader::token::value_of;
 use rules::{GroupsAnswer, MAX_ENTRIES};
-
-// A refusal, or how many entries the whole list has.
-#[derive(Clone, Copy)]
-pub enum Ended {
-    Refused(GroupsAnswer),
-    With(usize),
-}
 
 // Stores an entry, if the list has room for it.
 // Rules out: the 4,097th entry stored; the 4,096th left out.
@@ -27,7 +20,7 @@ fn put_entry(entries: &mut [i32], n: usize, x: i32)
     }
 }
 
-// The entries that stand from `at` on, behind `base` others.
+// The entries that stand from `at` on, behind `base` others: how many the whole list has.
 // Rules out: 11 where 9 is due; an entry left out.
 // Required of: read_list, with the number of variables and of clauses that fit.
 pub fn read_clauses(
@@ -37,32 +30,23 @@ pub fn read_clauses(
     clauses: u32,
     base: usize,
     entries: &mut [i32],
-) -> Ended
+) -> Result<usize, GroupsAnswer>
     requires { (at ≤ length text.now) × (length text.now ≤ max_text) × (vars ≤ max_vars) × (base ≤ max_base) × (max_entries ≤ length entries.old) }
     ensures { ClausesAt text.now at vars clauses base entries.old result entries.new }
 {
     let mut next = at;
     let mut complete: u32 = 0;
     let mut n = base;
-    loop {
-        match next_step(text, next, Due::Entry(vars, clauses, complete)) {
-            Step::Refused(a) => {
-                return Ended::Refused(a);
-            }
-            Step::TextEnd => {
-                if complete < clauses {
-                    return Ended::Refused(GroupsAnswer::ShortText(text.len()));
-                }
-                return Ended::With(n);
-            }
-            Step::Is(to, e) => {
-                put_entry(entries, n, value_of(e));
-                n += 1;
-                if e.number == 0 {
-                    complete += 1;
-                }
-                next = to;
-            }
+    while let Some((to, e)) = next_step(text, next, Due::Entry(vars, clauses, complete))? {
+        put_entry(entries, n, value_of(e));
+        n += 1;
+        if e.number == 0 {
+            complete += 1;
         }
+        next = to;
     }
+    if complete < clauses {
+        return Err(GroupsAnswer::ShortText(text.len()));
+    }
+    Ok(n)
 }

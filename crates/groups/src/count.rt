@@ -11,9 +11,7 @@ fn pairs_of(n: u32) -> u32
     ensures { result ≡ pair_count n }
 {
     let mut pairs: u32 = 0;
-    let mut left = n;
-    while 0 < left {
-        left -= 1;
+    for left in 0..n {
         pairs += left;
     }
     pairs
@@ -27,10 +25,8 @@ pub fn clauses_of(sizes: &[u8]) -> u32
     ensures { result ≡ length (groups_from 0 sizes.now) }
 {
     let mut clauses: u32 = 0;
-    let mut i: usize = 0;
-    while i < sizes.len() {
-        clauses += 1 + pairs_of(sizes[i] as u32);
-        i += 1;
+    for size in sizes {
+        clauses += 1 + pairs_of(*size as u32);
     }
     clauses
 }

@@ -43,12 +43,8 @@ fn put_pairs_with(out: &mut [i32], at: usize, low: u32, from: u32, n: u32) -> us
     ensures { Stored (entries_of (pairs_with low from n)) at out.old result out.new }
 {
     let mut next = at;
-    let mut high = from;
-    let mut left = n;
-    while 0 < left {
+    for high in from..from + n {
         next = put_pair(out, next, low, high);
-        high += 1;
-        left -= 1;
     }
     next
 }
@@ -61,12 +57,9 @@ fn put_pairs(out: &mut [i32], at: usize, first: u32, n: u32) -> usize
     ensures { Stored (entries_of (pairs_from first n)) at out.old result out.new }
 {
     let mut next = at;
-    let mut low = first;
-    let mut left = n;
-    while 0 < left {
-        left -= 1;
-        next = put_pairs_with(out, next, low, low + 1, left);
-        low += 1;
+    let end = first + n;
+    for low in first..end {
+        next = put_pairs_with(out, next, low, low + 1, end - low - 1);
     }
     next
 }
@@ -79,13 +72,9 @@ fn put_values(out: &mut [i32], at: usize, first: u32, n: u32) -> usize
     ensures { Stored (values_from first n) at out.old result out.new }
 {
     let mut next = at;
-    let mut index = first;
-    let mut left = n;
-    while 0 < left {
+    for index in first..first + n {
         out[next] = literal(index, false);
         next += 1;
-        index += 1;
-        left -= 1;
     }
     next
 }
@@ -111,12 +100,10 @@ pub fn put_groups(sizes: &[u8], out: &mut [i32]) -> usize
 {
     let mut next: usize = 0;
     let mut first: u32 = 0;
-    let mut i: usize = 0;
-    while i < sizes.len() {
-        let n = sizes[i] as u32;
+    for size in sizes {
+        let n = *size as u32;
         next = put_group(out, next, first, n);
         first += n;
-        i += 1;
     }
     next
 }

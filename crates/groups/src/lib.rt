@@ -18,11 +18,11 @@ ghost use Rattle.texts.specs.GroupsReading.{refused as Judged·refused};
 ghost use Rattle.groups.specs.Steps.{left_at};
 ghost use Rattle.groups.specs.Lists.{finished_of, Placed, ListStores, SizesStore, SizesRead, Lent};
 
-use clauses::{Ended, read_clauses};
+use clauses::read_clauses;
 use count::clauses_of;
 use expand::put_groups;
 use rules::{GroupsAnswer, GroupsReading, MAX_CLAUSES, MAX_ENTRIES, MAX_GROUPS, MAX_TEXT};
-use sizes::{Counted, read_number, read_sizes};
+use sizes::{read_number, read_sizes};
 use step::Due;
 
 // All counts are zero.
@@ -90,8 +90,8 @@ fn read_list(
     let base = (3 * own + vars) as usize - 2 * groups;
     place_groups(sizes, base, entries);
     match read_clauses(text, at, vars, clauses, base, entries) {
-        Ended::Refused(a) => refused(a),
-        Ended::With(n) => finished(groups as u32, vars, own + clauses, n),
+        Err(a) => refused(a),
+        Ok(n) => finished(groups as u32, vars, own + clauses, n),
     }
 }
 
@@ -103,8 +103,8 @@ fn read_rest(text: &[u8], at: usize, sizes: &[u8], vars: u32, entries: &mut [i32
     ensures { ListStores (left_at text.now (sizes_due 0 sizes.now) at) entries.old result entries.new }
 {
     match read_number(text, at, Due::Count) {
-        Counted::Refused(a) => refused(a),
-        Counted::Is(to, clauses) => read_list(text, to, sizes, vars, clauses, entries),
+        Err(a) => refused(a),
+        Ok((to, clauses)) => read_list(text, to, sizes, vars, clauses, entries),
     }
 }
 
@@ -123,8 +123,8 @@ fn read_body(
         × SizesStore (left_at text.now (sizes_due groups []) at) sizes.old sizes.new }
 {
     match read_sizes(text, at, groups, sizes) {
-        Counted::Refused(a) => refused(a),
-        Counted::Is(to, vars) => read_rest(text, to, &sizes[..groups], vars, entries),
+        Err(a) => refused(a),
+        Ok((to, vars)) => read_rest(text, to, &sizes[..groups], vars, entries),
     }
 }
 
@@ -137,8 +137,8 @@ fn read_text(text: &[u8], entries: &mut [i32], sizes: &mut [u8]) -> GroupsReadin
         × SizesStore (left_at text.now groups_due 0) sizes.old sizes.new }
 {
     match read_number(text, 0, Due::Groups) {
-        Counted::Refused(a) => refused(a),
-        Counted::Is(to, n) => read_body(text, to, n as usize, entries, sizes),
+        Err(a) => refused(a),
+        Ok((to, n)) => read_body(text, to, n as usize, entries, sizes),
     }
 }
 
@@ -149,7 +149,7 @@ fn clear_sizes(sizes: &mut [u8], from: usize)
     requires { (from ≤ max_groups) × (max_groups ≤ length sizes.old) }
     ensures { sizes.new ≡ sizes_filled (take from sizes.old) sizes.old }
 {
-    buffers::clear::clear_bytes(&mut sizes[from..MAX_GROUPS]);
+    sizes[from..MAX_GROUPS].fill(0);
 }
 
 // Reads a file of groups into the entries and the sizes that are lent: number and place, how many groups, and variables, clauses and entries of the

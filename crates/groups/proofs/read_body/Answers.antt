@@ -8,17 +8,17 @@ use Rattle.groups.proofs.ReadLaws.{list_refused, stores_of, sizes_refused, sizes
 use Rattle.groups.specs.Steps.{Sizing}
 use Rattle.groups.proofs.read_body.Goals as goal
 
-pub slice_bounds-read_rest-end-in-Is : goal.slice_bounds-read_rest-end-in-Is
-slice_bounds-read_rest-end-in-Is c =
-    let sized : let a = c.args in Sizing a.text.now a.at a.groups a.sizes.now a.groups c.in-Is.to c.in-Is.vars c.read_sizes.new.sizes =
-    sizes_counted c.read_sizes.ensures c.in-Is.to c.in-Is.vars c.in-Is.is in
+pub slice_bounds-read_rest-end-in-Ok : goal.slice_bounds-read_rest-end-in-Ok
+slice_bounds-read_rest-end-in-Ok c =
+    let sized : let a = c.args in Sizing a.text.now a.at a.groups a.sizes.now a.groups c.in-Ok.to c.in-Ok.vars c.read_sizes.new.sizes =
+    sizes_counted c.read_sizes.ensures c.in-Ok.to c.in-Ok.vars c.in-Ok.is in
     let enough : c.args.groups ≤ length c.read_sizes.new.sizes = omega (arith, sized.len, c.requires.2, c.requires.0.sizes_room) in
     sym (length-take-le _ _ enough)
 
 pub read_rest-requires : goal.read_rest-requires
 read_rest-requires c =
-    let sized : let a = c.args in Sizing a.text.now a.at a.groups a.sizes.now a.groups c.in-Is.to c.in-Is.vars c.read_sizes.new.sizes =
-    sizes_counted c.read_sizes.ensures c.in-Is.to c.in-Is.vars c.in-Is.is in
+    let sized : let a = c.args in Sizing a.text.now a.at a.groups a.sizes.now a.groups c.in-Ok.to c.in-Ok.vars c.read_sizes.new.sizes =
+    sizes_counted c.read_sizes.ensures c.in-Ok.to c.in-Ok.vars c.in-Ok.is in
     let z = sized in
     record {
       small = sizes_small z c.requires.2 c.requires.0.sizes_room;
@@ -29,14 +29,14 @@ read_rest-requires c =
       room = c.requires.0.room;
     }
 
-pub returns-in-Refused : goal.returns-in-Refused
-returns-in-Refused c =
-    let judged = sizes_refused c.read_sizes.ensures c.in-Refused.a c.in-Refused.is in
+pub returns-in-Err : goal.returns-in-Err
+returns-in-Err c =
+    let judged = sizes_refused c.read_sizes.ensures c.in-Err.a c.in-Err.is in
     (list_refused judged refl c.refused.ensures, body_refused judged c.read_sizes.ensures.rest_is)
 
-pub returns-in-Is : goal.returns-in-Is
-returns-in-Is c =
-    let sized : let a = c.args in Sizing a.text.now a.at a.groups a.sizes.now a.groups c.in-Is.to c.in-Is.vars c.read_sizes.new.sizes =
-    sizes_counted c.read_sizes.ensures c.in-Is.to c.in-Is.vars c.in-Is.is in
+pub returns-in-Ok : goal.returns-in-Ok
+returns-in-Ok c =
+    let sized : let a = c.args in Sizing a.text.now a.at a.groups a.sizes.now a.groups c.in-Ok.to c.in-Ok.vars c.read_sizes.new.sizes =
+    sizes_counted c.read_sizes.ensures c.in-Ok.to c.in-Ok.vars c.in-Ok.is in
     let z = sized in
     (stores_of (sizes_judged z c.requires.2 c.requires.0.sizes_room) c.read_rest.ensures, sizes_stored z c.requires.2 c.requires.0.sizes_room)

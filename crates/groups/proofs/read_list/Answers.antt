@@ -43,18 +43,18 @@ pub overflow_add-own : goal.overflow_add-own
 overflow_add-own c =
     record { fits = omega (arith, own_le c.requires.0 c.clauses_of-own.result c.clauses_of-own.ensures, c.requires.1) }
 
-pub returns-in-Refused : goal.returns-in-Refused
-returns-in-Refused c =
+pub returns-in-Err : goal.returns-in-Err
+returns-in-Err c =
     list_refused
-    (clauses_refused c.read_clauses.ensures c.in-Refused.a c.in-Refused.is c.args.sizes.now (sym c.requires.0.vars_are))
+    (clauses_refused c.read_clauses.ensures c.in-Err.a c.in-Err.is c.args.sizes.now (sym c.requires.0.vars_are))
     (c.read_clauses.ensures.rest_is ∙ c.place_groups.ensures.rest_is) c.refused.ensures
 
-pub returns-in-With : goal.returns-in-With
-returns-in-With c =
+pub returns-in-Ok : goal.returns-in-Ok
+returns-in-Ok c =
     let base : let a = c.args in 3 * c.clauses_of-own.result + a.vars - 2 * length a.sizes.now ≡ length (entries_of (groups_from 0 a.sizes.now)) =
     base_is c.requires.0 c.clauses_of-own.result c.clauses_of-own.ensures in
     let a = c.args in
-    list_finished (sym c.requires.0.vars_are) base c.place_groups.ensures (clauses_complete c.read_clauses.ensures c.in-With.n c.in-With.is)
+    list_finished (sym c.requires.0.vars_are) base c.place_groups.ensures (clauses_complete c.read_clauses.ensures c.in-Ok.n c.in-Ok.is)
     c.read_clauses.ensures.rest_is
     (c.finished.ensures ∙
-    ap (λ (k : ℕ). finished_of (length a.sizes.now) a.vars (k + a.clauses) c.in-With.n) c.clauses_of-own.ensures)
+    ap (λ (k : ℕ). finished_of (length a.sizes.now) a.vars (k + a.clauses) c.in-Ok.n) c.clauses_of-own.ensures)

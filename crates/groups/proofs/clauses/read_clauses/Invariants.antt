@@ -5,8 +5,8 @@ use lib.ListN.{length}
 use Rattle.groups.specs.Clauses.{Clausing}
 use Rattle.groups.proofs.clauses.read_clauses.Given as goal
 
-abbrev pub invariant-loop-a : goal.invariant-loop-a
-invariant-loop-a l = Clausing l.text l.at l.vars l.clauses l.base l.initial.entries l.next l.complete l.n l.entries
+abbrev pub invariant-loop-to : goal.invariant-loop-to
+invariant-loop-to l = Clausing l.text l.at l.vars l.clauses l.base l.initial.entries l.next l.complete l.n l.entries
 
-abbrev pub decreases-loop-a : goal.decreases-loop-a
-decreases-loop-a l = length l.text - l.next
+abbrev pub decreases-loop-to : goal.decreases-loop-to
+decreases-loop-to l = length l.text - l.next

@@ -1,6 +1,6 @@
 -- `groups::expand::put_pairs` meets its contract. Assumes nothing.
 use mathlib.Core.Path.{◌≡◌, refl, ap}
-use Prim.Native.Nat.{ℕ, suc, ◌-◌}
+use Prim.Native.Nat.{ℕ, suc, ◌+◌, ◌-◌}
 use native.Mathlib.Omega.{arith}
 use native.Mathlib.Numerals.{add-one}
 use Rattle.texts.specs.Plain.{entries_of}
@@ -8,35 +8,38 @@ use Rattle.texts.specs.Groups.{pairs_with, pairs_from}
 use Rattle.groups.proofs.ExpandLaws.{putting_start, putting_fits, putting_step, putting_done, pairs_later}
 use Rattle.groups.proofs.expand.put_pairs.Goals as goal
 
-pub loop-left-init : goal.loop-left-init
-loop-left-init c =
-    (putting_start _ _ _, refl)
+pub loop-low-init : goal.loop-low-init
+loop-low-init c =
+    (c.args.n, putting_start _ _ _, refl)
 
 pub put_pairs_with-next-requires : goal.put_pairs_with-next-requires
 put_pairs_with-next-requires c =
-    let l = c.loop-left in
-    let pre = c.requires in (
-      rw (add-one l.low) (putting_fits l.invariant.0 pre.0 (entries_of (pairs_with l.low (suc l.low) (l.left - 1)))
-          (entries_of (pairs_from (suc l.low) (l.left - 1))) (pairs_later l.low l.left c.loop-left-test.true)),
-      omega (arith, pre.1, l.invariant.1, c.loop-left-test.true),
-      omega (arith, pre.1, l.invariant.1, c.loop-left-test.true),
+    let l = c.loop-low in
+    let pre = c.requires in
+    let same : c.args.first + c.args.n - l.low - 1 ≡ l.invariant.0 - 1 = omega (arith, l.invariant.2) in (
+      rw (add-one l.low, same) (putting_fits l.invariant.1 pre.0 (entries_of (pairs_with l.low (suc l.low) (l.invariant.0 - 1)))
+          (entries_of (pairs_from (suc l.low) (l.invariant.0 - 1))) (pairs_later l.low l.invariant.0 (omega (arith, l.invariant.2, c.loop-low-test.true)))),
+      omega (arith, pre.1, l.invariant.2, c.loop-low-test.true),
+      omega (arith, pre.1, l.invariant.2, c.loop-low-test.true),
     )
 
-pub loop-left-preserved : goal.loop-left-preserved
-loop-left-preserved c =
-    let l = c.loop-left in
-    let stored = rw (add-one l.low) at c.put_pairs_with-next.ensures in (
-      rw (add-one l.low) (putting_step l.invariant.0 (entries_of (pairs_with l.low (suc l.low) (l.left - 1)))
-          (entries_of (pairs_from (suc l.low) (l.left - 1))) (pairs_later l.low l.left c.loop-left-test.true) stored),
-      omega (arith, l.invariant.1, c.loop-left-test.true),
+pub loop-low-preserved : goal.loop-low-preserved
+loop-low-preserved c =
+    let l = c.loop-low in
+    let same : c.args.first + c.args.n - l.low - 1 ≡ l.invariant.0 - 1 = omega (arith, l.invariant.2) in
+    let stored = rw (add-one l.low, same) at c.put_pairs_with-next.ensures in (
+      l.invariant.0 - 1,
+      rw (add-one l.low) (putting_step l.invariant.1 (entries_of (pairs_with l.low (suc l.low) (l.invariant.0 - 1)))
+          (entries_of (pairs_from (suc l.low) (l.invariant.0 - 1))) (pairs_later l.low l.invariant.0 (omega (arith, l.invariant.2, c.loop-low-test.true))) stored),
+      omega (arith, l.invariant.2, c.loop-low-test.true),
     )
 
 pub shape_of-out : goal.shape_of-out
 shape_of-out c =
-    c.loop-left.invariant.0.len
+    c.loop-low.invariant.1.len
 
 pub returns : goal.returns
 returns c =
-    let l = c.loop-left in
-    let none : l.left ≡ 0 = omega (arith, c.loop-left-test.false) in
-    putting_done l.invariant.0 (ap (λ (k : ℕ). entries_of (pairs_from l.low k)) none)
+    let l = c.loop-low in
+    let none : l.invariant.0 ≡ 0 = omega (arith, l.invariant.2, c.loop-low-test.false) in
+    putting_done l.invariant.1 (ap (λ (k : ℕ). entries_of (pairs_from l.low k)) none)

@@ -1,13 +1,11 @@
 -- `groups::expand::put_values` meets its contract. The invariant of its loop: what is stored, and the values that are left, are the
--- whole. The measure is how many are left. Assumes nothing.
+-- whole. Assumes nothing.
 use mathlib.Core.Path.{◌≡◌}
-use Prim.Native.Nat.{◌+◌}
+use Prim.Native.Nat.{ℕ, ◌+◌}
 use Rattle.texts.specs.Groups.{values_from}
 use Rattle.groups.proofs.ExpandLaws.{Putting}
 use Rattle.groups.proofs.expand.put_values.Given as goal
 
-abbrev pub invariant-loop-left : goal.invariant-loop-left
-invariant-loop-left l = Putting (values_from l.first l.n) l.at l.initial.out l.next l.out (values_from l.index l.left) × (l.index + l.left ≡ l.first + l.n)
-
-abbrev pub decreases-loop-left : goal.decreases-loop-left
-decreases-loop-left l = l.left
+abbrev pub invariant-loop-index : goal.invariant-loop-index
+invariant-loop-index l =
+    (left : ℕ) × Putting (values_from l.first l.n) l.at l.initial.out l.next l.out (values_from l.index left) × (l.index + left ≡ l.first + l.n)

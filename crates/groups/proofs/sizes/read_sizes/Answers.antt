@@ -2,7 +2,7 @@
 use Prim.Native.Nat.{◌+◌, ◌≤◌, ◌<◌}
 use native.Mathlib.Omega.{arith}
 use lib.ListN.{length}
-use borrow.Author.Rules.{rules}
+use Rattle.std.proofs.lemmas.Result.{err_from_is_err_and}
 use Rattle.texts.specs.Groups.{max_size}
 use Rattle.rules.specs.Numbers.{max_vars}
 use Rattle.groups.proofs.SizesLaws.{sizing_start, sizing_size, sizing_step, sizing_refused, sizing_done}
@@ -16,49 +16,34 @@ pub read_number-requires : goal.read_number-requires
 read_number-requires c =
     c.loop-i.invariant.vars_fit
 
-pub shape_of-sizes-in-Refused : goal.shape_of-sizes-in-Refused
-shape_of-sizes-in-Refused c =
-    c.loop-i.invariant.len
-
-pub returns-in-Refused : goal.returns-in-Refused
-returns-in-Refused c =
+pub returns-in_err-to : goal.returns-in_err-to
+returns-in_err-to c =
     let l = c.loop-i in
-    record {
-      judges = sizing_refused l.invariant c.read_number.ensures c.loop-i-test.true c.in-Refused.a c.in-Refused.is;
+    let p = err_from_is_err_and c.from_residual.result c.from_residual.ensures.1 in
+    rw (p.1, p.2)
+    (record {
+      judges = sizing_refused l.invariant c.read_number.ensures c.loop-i-test.true c.in_err-to.field-0.0 c.in_err-to.was;
       rest_is = l.invariant.rest_is;
-    }
+    })
 
 pub overflow_cast-sizes : goal.overflow_cast-sizes
 overflow_cast-sizes c =
-    let fits : (c.in-Is.n ≤ max_size) × (c.loop-i.vars + c.in-Is.n ≤ max_vars) =
-    sizing_size c.loop-i.invariant c.read_number.ensures c.loop-i-test.true c.in-Is.to c.in-Is.n c.in-Is.is in
-    let r = fits in record { fits = omega (arith, r.0) }
+    let r = sizing_size c.loop-i.invariant c.read_number.ensures c.loop-i-test.true c.in_ok-to.to c.in_ok-to.n c.in_ok-to.was in
+    record { fits = omega (arith, r.0) }
 
 pub bounds-sizes-i : goal.bounds-sizes-i
 bounds-sizes-i c =
-    let room : let l = c.loop-i in l.i < length l.sizes = omega (arith, c.loop-i-test.true, c.loop-i.invariant.len, c.requires) in
-    room
+    omega (arith, c.loop-i-test.true, c.loop-i.invariant.len, c.requires)
 
 pub overflow_add-vars : goal.overflow_add-vars
 overflow_add-vars c =
-    let fits : (c.in-Is.n ≤ max_size) × (c.loop-i.vars + c.in-Is.n ≤ max_vars) =
-    sizing_size c.loop-i.invariant c.read_number.ensures c.loop-i-test.true c.in-Is.to c.in-Is.n c.in-Is.is in
-    let r = fits in record { fits = omega (arith, r.1) }
-
-pub overflow_add-i : goal.overflow_add-i
-overflow_add-i c =
-    let room : let l = c.loop-i in l.i < length l.sizes = omega (arith, c.loop-i-test.true, c.loop-i.invariant.len, c.requires) in
-    let r = room in search rules
-
-pub loop-i-smaller : goal.loop-i-smaller
-loop-i-smaller c =
-    let r = c.loop-i-test.true in search rules
+    let r = sizing_size c.loop-i.invariant c.read_number.ensures c.loop-i-test.true c.in_ok-to.to c.in_ok-to.n c.in_ok-to.was in
+    record { fits = omega (arith, r.1) }
 
 pub loop-i-preserved : goal.loop-i-preserved
 loop-i-preserved c =
-    let room : let l = c.loop-i in l.i < length l.sizes = omega (arith, c.loop-i-test.true, c.loop-i.invariant.len, c.requires) in
-    sizing_step c.loop-i.invariant c.read_number.ensures c.loop-i-test.true c.in-Is.to c.in-Is.n c.in-Is.is room
-    c.requires.1
+    sizing_step c.loop-i.invariant c.read_number.ensures c.loop-i-test.true c.in_ok-to.to c.in_ok-to.n c.in_ok-to.was
+    (omega (arith, c.loop-i-test.true, c.loop-i.invariant.len, c.requires)) c.requires.1
 
 pub shape_of-sizes : goal.shape_of-sizes
 shape_of-sizes c =
@@ -67,4 +52,4 @@ shape_of-sizes c =
 pub returns : goal.returns
 returns c =
     let l = c.loop-i in
-    record { judges = sizing_done l.invariant c.loop-i-test.false; rest_is = l.invariant.rest_is }
+    record { judges = sizing_done l.invariant (omega (arith, c.loop-i-test.false)); rest_is = l.invariant.rest_is }
