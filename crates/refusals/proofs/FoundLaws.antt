@@ -1,8 +1,8 @@
 -- What code finds is the refusal of specs/Answer: a law for each rule of a list, from what code knows where it gives that number.
 --
---   held_found, many_held_found, bad_held_found, held_found     the held literals, in the order of their rules
+--   held_found, bad_held_found, held_found     the held literals, in the order of their rules
 --   after_list, of_list     the rules of the list before those of the held literals
---   list_found, list_long_found, not_ended_found, zero_over_found, above_found, list_found_lem     the list, in the order of its rules
+--   list_found, zero_over_found, above_found, list_found_lem     the list, in the order of its rules
 --
 -- Assumes nothing.
 use mathlib.Core.Path.{◌≡◌, refl, sym, ◌∙◌, ap}
@@ -10,19 +10,19 @@ use mathlib.Core.Bool.{true, false}
 use mathlib.Core.List.{List, ◌++◌}
 use mathlib.Core.Option.{Option, none, some}
 use Rattle.std.specs.Prelude.{Some, None, Result, Ok, Err}
-use Prim.Native.Nat.{ℕ, ◌≤◌, ◌<◌}
+use Prim.Native.Nat.{ℕ, ◌≤◌}
 use native.Mathlib.Omega.{arith}
 use lib.IntN.{ℤ}
 use lib.ListN.{length}
 use Rattle.rules.specs.declared.Refusal.{Refusal}
-use Rattle.rules.specs.Lists.{count, nth_index, Check, first_of, is_zero}
+use Rattle.rules.specs.Lists.{count, Check, first_of, is_zero}
 use Rattle.rules.specs.Numbers.{max_clauses, max_entries, max_held}
 use Rattle.rules.specs.Held.{is_no_literal, held_rules}
 use Rattle.rules.specs.Answer.{is_ended, is_above, list_rules, taking_rules}
 use Rattle.rules.proofs.ListLaws.{any_of_count, count_zero}
 use Rattle.rules.proofs.AnswerLaws.{nth_index_below, nth_index_above}
-use Rattle.rules.proofs.AnswerLaws.{list_long_first, not_ended_first, zero_over_first, above_first, list_first}
-use Rattle.rules.proofs.AnswerLaws.{first_front, first_back, many_held_first, bad_held_first, held_first}
+use Rattle.rules.proofs.AnswerLaws.{zero_over_first, above_first, list_first}
+use Rattle.rules.proofs.AnswerLaws.{first_front, first_back, bad_held_first, held_first}
 use Rattle.refusals.specs.Refuse.{found, or_rest, nth_within}
 use Rattle.refusals.proofs.RefuseLaws.{found_within, none_within}
 
@@ -33,13 +33,7 @@ module _ (es : List ℤ) (vars : ℕ) where
   abbrev pub list_found : Result (Unit {0}) Refusal
   list_found = found (first_of (list_rules es vars))
 
-  pub list_long_found : max_entries < length es → Err (Refusal.BadList max_entries) ≡ list_found
-  list_long_found h = ap found (sym (list_long_first es vars h))
-
   module _ (short : length es ≤ max_entries) where
-    pub not_ended_found : is_ended es ≡ false → Err (Refusal.BadList (length es)) ≡ list_found
-    not_ended_found e = ap found (sym (not_ended_first es vars short e))
-
     module _ (ended : is_ended es ≡ true) where
       pub zero_over_found : (i : ℕ) → nth_within is_zero es max_clauses ≡ Some i → Err (Refusal.BadList i) ≡ list_found
       zero_over_found i e =
@@ -70,9 +64,6 @@ module _ (held : List ℤ) (vars : ℕ) where
   -- what `refuse_held` finds
   abbrev pub held_found : Result (Unit {0}) Refusal
   held_found = found (first_of (held_rules held vars))
-
-  pub many_held_found : max_held < length held → Err Refusal.ManyHeld ≡ held_found
-  many_held_found h = ap found (sym (many_held_first held vars h))
 
   module _ (few : length held ≤ max_held) where
     pub bad_held_found : (i : ℕ) → nth_within (is_no_literal vars) held 0 ≡ Some i → Err (Refusal.BadLiteral i) ≡ held_found

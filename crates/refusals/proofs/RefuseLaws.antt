@@ -1,9 +1,9 @@
 -- The laws of `refuse`: the loops that look for an entry, and the last entry.
 --
 --   found_within, none_within, position_within     the index of the entry that passes as the nth one, if there is one
---   Seek, seek_start, seek_pass, seek_count, seek_found, seek_done     the loop that looks for the entry that passes as the nth one
+--   Seek, seek_pass, seek_count, seek_found, seek_done     the loop that looks for the entry that passes as the nth one
 --   is_zero_bits, is_zero_same, is_zero_other     an entry is 0 if its bits are
---   is_ended_empty, is_ended_read     an empty list, and the last entry, as code reads it
+--   is_ended_read     an empty list, and the last entry, as code reads it
 --
 -- Assumes nothing.
 use mathlib.Core.Path.{◌≡◌, refl, sym, ◌∙◌, ap}
@@ -21,8 +21,7 @@ use lib.Seq.{drop-cons}
 use mir.Syntax.{w32}
 use mir.Val.{of_z}
 use borrow.Author.Tests.{eqb-true, eq-eqb, lt-ltb, le-ltb, ltb-true, ltb-false}
-use Rattle.std.specs.Prelude.{Option, Some, None, cond, position}
-use Rattle.std.specs.List.{position_or_len}
+use Rattle.std.specs.Prelude.{Some, None, cond, position}
 use Rattle.std.proofs.lemmas.List.Recursion.{is_position_or_len}
 use Rattle.refusals.specs.Refuse.{nth_within}
 use Rattle.rules.specs.Lists.{index_if, nth_index, is_zero}
@@ -73,9 +72,6 @@ position_within p es =
 pub record Seek (p : ℤ → Bool) (es : List ℤ) (n left i : ℕ) : Type 0 where
   pub within : i ≤ length es
   pub same : i + nth_index p (drop i es) left ≡ nth_index p es n
-
-pub seek_start : (p : ℤ → Bool) (es : List ℤ) (n : ℕ) → Seek p es n n 0
-seek_start p es n = record { within = omega arith; same = omega arith }
 
 module _ {p : ℤ → Bool} {es : List ℤ} {n left i : ℕ} (w : Seek p es n left i) where
   here : i < length es → nth_index p (drop i es) left ≡ index_if (p (get_or es i (pos 0))) left (λ k. nth_index p (drop (suc i) es) k)
@@ -130,7 +126,3 @@ is_ended_read (e ∷ []) n = refl
 is_ended_read (e ∷ f ∷ es) n =
     let q : length (e ∷ f ∷ es) - 1 ≡ suc (length (f ∷ es) - 1) = omega arith in
     ap (λ (k : ℕ). is_zero (get_or (e ∷ f ∷ es) k (pos 0))) q ∙ is_ended_read (f ∷ es) (omega arith)
-
-pub is_ended_empty : (es : List ℤ) → length es ≡ 0 → true ≡ is_ended es
-is_ended_empty [] e = refl
-is_ended_empty (e ∷ es) h = absurd (omega arith)

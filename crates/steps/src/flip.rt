@@ -28,10 +28,7 @@ fn flip_by(entries: &[i32], starts: &[u16], values: &[u8]) -> Flip
 fn may_flip(flip: Flip) -> bool
     ensures { result ≡ may_flip flip }
 {
-    match flip {
-        Flip::May => true,
-        Flip::HeldBy(_) => false,
-    }
+    matches!(flip, Flip::May)
 }
 
 // The other of the two values.
@@ -86,10 +83,8 @@ pub fn flip(entries: &[i32], starts: &[u16], model: &mut [u8], status: &mut [u8]
     ensures { Flips (clauses entries.now) model.old status.old result model.new status.new }
 {
     let mut dropped: u32 = 0;
-    let mut i: usize = 0;
-    while i < status.len() {
+    for i in 0..status.len() {
         dropped += flip_at(entries, starts, model, status, i);
-        i += 1;
     }
     dropped
 }
