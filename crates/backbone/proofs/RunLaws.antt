@@ -34,8 +34,7 @@ use Rattle.rules.proofs.ListLaws.{apart}
 use Rattle.rules.proofs.ClauseLaws.{length-clauses}
 use Rattle.rules.proofs.HeldLaws.{length-with_held, clauses_held, length-list_with, list_with_up_to}
 use Rattle.rules.proofs.RefusedRuns.{run_accepted}
-use Rattle.refusals.specs.declared.Checked.{Checked}
-use Rattle.refusals.specs.declared.Checked.TheVariants.{Accepted as NotRefused, Refused}
+use Rattle.std.specs.Prelude.{Result, Ok, Err}
 use Rattle.refusals.specs.Refuse.{found}
 use Rattle.formula.specs.Starts.{starts_of}
 use Rattle.formula.specs.Formula.{Formula}
@@ -44,11 +43,11 @@ use Rattle.calls.specs.Next.{Allowed, task}
 use Rattle.calls.specs.Records.{ShowsRecords, RecordsLent}
 use Rattle.backbone.specs.First.{RunDone, HintsDone}
 
-pub found_some : (o : Option Refusal) {a : Refusal} → Refused a ≡ found o → o ≡ some a
+pub found_some : (o : Option Refusal) {a : Refusal} → Err a ≡ found o → o ≡ some a
 found_some none e = apart cc
 found_some (some b) e = cc
 
-pub found_none : (o : Option Refusal) → NotRefused ≡ found o → o ≡ none
+pub found_none : (o : Option Refusal) → Ok tt ≡ found o → o ≡ none
 found_none none e = refl
 found_none (some b) e = apart cc
 
@@ -58,12 +57,12 @@ limits_of g = record { budget = g.budget; chunk = g.limit }
 
 module _ (g : Given) where
   -- what the rules say of the list, with 10 and 1 as a run has them
-  pub checked_is : {bad short : Bool} {c : Checked} → bad ≡ out_of_limits g.vars g.limit → short ≡ is_short g
+  pub checked_is : {bad short : Bool} {c : Result (Unit {0}) Refusal} → bad ≡ out_of_limits g.vars g.limit → short ≡ is_short g
       → c ≡ found (first_of (taking_rules bad short g.entries g.vars g.held)) → c ≡ found (refusal_of g)
   unfolding refusal_of
   checked_is b s e = rw (b, s) at e
 
-  pub runs_refused : {a : Refusal} → Refused a ≡ found (refusal_of g)
+  pub runs_refused : {a : Refusal} → Err a ≡ found (refusal_of g)
       → Runs g (record { answer = RunAnswer.Refused a; calls = 0; tries = 0; forced = 0; free = 0 })
       (buffers g.status g.calls g.ways g.hints g.log)
   unfolding report_of status_after calls_after ways_after hints_after log_after
@@ -78,7 +77,7 @@ module _ (g : Given) where
         log_is = ap (λ (r : Option Refusal). log_if r (task_of g) g.log) (sym o);
       }
 
-  module _ (e : NotRefused ≡ found (refusal_of g)) where
+  module _ (e : Ok tt ≡ found (refusal_of g)) where
     pub accepted : Accepted g
     accepted = (run_accepted g).0 (found_none (refusal_of g) e)
 

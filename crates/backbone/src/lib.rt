@@ -36,14 +36,14 @@ pub fn run(
     );
     let checked = refusals::refuse(bad_limits, short, entries, vars, held);
     match checked {
-        refusals::Checked::Refused(refusal) => rules::Report {
+        Err(refusal) => rules::Report {
             answer: rules::RunAnswer::Refused(refusal),
             calls: 0,
             tries: 0,
             forced: 0,
             free: 0,
         },
-        refusals::Checked::Accepted => {
+        Ok(()) => {
             let n = vars as usize;
             let mut first = [0u8; rules::MAX_VARS as usize];
             first::held_run(

@@ -32,7 +32,7 @@ use Rattle.rules.proofs.ListLaws.{apart}
 use Rattle.rules.proofs.ClauseLaws.{length-clauses}
 use Rattle.texts.proofs.ClaimsJudged.{taken_of_none}
 use Rattle.reader.specs.declared.token.Entry.{Entry}
-use Rattle.refusals.specs.declared.Checked.TheVariants.{Accepted as NotRefused, Refused}
+use Rattle.std.specs.Prelude.{Ok, Err}
 use Rattle.refusals.specs.Refuse.{found}
 use Rattle.formula.specs.Starts.{starts_of, StartsFound}
 use Rattle.formula.specs.Formula.{Formula}
@@ -104,11 +104,11 @@ pub found_formula : {vars n : ℕ} {es : List ℤ} {before after : List ℕ} →
 found_formula f w =
     record { vars_fit = f.vars_fit; entries_most = f.entries_most; clauses_most = f.clauses_most; starts_are = found_front w; up_to = f.up_to }
 
-found_some : (o : Option Refusal) {a : Refusal} → Refused a ≡ found o → o ≡ some a
+found_some : (o : Option Refusal) {a : Refusal} → Err a ≡ found o → o ≡ some a
 found_some none e = apart cc
 found_some (some b) e = cc
 
-found_none : (o : Option Refusal) → NotRefused ≡ found o → o ≡ none
+found_none : (o : Option Refusal) → Ok tt ≡ found o → o ≡ none
 found_none none e = refl
 found_none (some b) e = apart cc
 
@@ -121,7 +121,7 @@ module _ (es : List ℤ) (vars : ℕ) (text : List ℕ) where
   unfolding claims_refusal
   refusal_is = refl
 
-  pub list_taken : NotRefused ≡ found list_refusal → ListTaken vars es
+  pub list_taken : Ok tt ≡ found list_refusal → ListTaken vars es
   list_taken e =
       let t = taken_of_none (claims_given es vars text) (sym refusal_is ∙ found_none list_refusal e) in
       record {
@@ -136,7 +136,7 @@ module _ (es : List ℤ) (vars : ℕ) (text : List ℕ) where
         clauses_most = omega (arith, length-clauses es, t.list.listed.clauses_fit);
       }
 
-  pub checks_refused : {a : Refusal} → Refused a ≡ found list_refusal → Checks (claims_given es vars text) (ClaimsAnswer.Refused a)
+  pub checks_refused : {a : Refusal} → Err a ≡ found list_refusal → Checks (claims_given es vars text) (ClaimsAnswer.Refused a)
   unfolding claims_answer
   checks_refused e =
       record {
@@ -144,16 +144,16 @@ module _ (es : List ℤ) (vars : ℕ) (text : List ℕ) where
             sym (ap (λ (o : Option Refusal). claims_answer_if o (judge_claims (claims_given es vars text))) (sym refusal_is ∙ found_some list_refusal e));
       }
 
-  answer_none : NotRefused ≡ found list_refusal → claims_answer (claims_given es vars text) ≡ judge_claims (claims_given es vars text)
+  answer_none : Ok tt ≡ found list_refusal → claims_answer (claims_given es vars text) ≡ judge_claims (claims_given es vars text)
   unfolding claims_answer
   answer_none e =
       ap (λ (o : Option Refusal). claims_answer_if o (judge_claims (claims_given es vars text))) (sym refusal_is ∙ found_none list_refusal e)
 
-  pub checks_long : NotRefused ≡ found list_refusal → max_text < length text → Checks (claims_given es vars text) ClaimsAnswer.LongText
+  pub checks_long : Ok tt ≡ found list_refusal → max_text < length text → Checks (claims_given es vars text) ClaimsAnswer.LongText
   unfolding judge_claims
   checks_long e h = record { result_is = sym (answer_none e ∙ rw (lt-ltb max_text (length text) h)) }
 
-  pub checks_file : {a : ClaimsAnswer} → NotRefused ≡ found list_refusal → length text ≤ max_text → FileChecked vars (clauses es) text a
+  pub checks_file : {a : ClaimsAnswer} → Ok tt ≡ found list_refusal → length text ≤ max_text → FileChecked vars (clauses es) text a
       → Checks (claims_given es vars text) a
   unfolding judge_claims
   checks_file {a} e h w =

@@ -84,8 +84,8 @@ pub fn check_claims(entries: &[i32], vars: u32, text: &[u8]) -> ClaimsAnswer
     let many = rules::MAX_VARS < vars;
     let checked = refusals::refuse(many, false, entries, vars, &entries[..0]);
     match checked {
-        refusals::Checked::Refused(refusal) => ClaimsAnswer::Refused(refusal),
-        refusals::Checked::Accepted => {
+        Err(refusal) => ClaimsAnswer::Refused(refusal),
+        Ok(()) => {
             if rules::MAX_TEXT < text.len() {
                 return ClaimsAnswer::LongText;
             }

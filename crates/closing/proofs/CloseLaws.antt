@@ -25,7 +25,7 @@ use Rattle.rules.specs.Close.{CloseGiven, close_setup, close_refusal, closed_set
 use Rattle.rules.specs.Close.{close_values_if, close_values_after, Closes}
 use Rattle.rules.specs.Setup.{setup_refusal, setup_run}
 use Rattle.rules.proofs.SetupTheorems.{refusal_same}
-use Rattle.refusals.specs.declared.Checked.TheVariants.{Accepted as NotRefused, Refused}
+use Rattle.std.specs.Prelude.{Ok, Err}
 use Rattle.refusals.specs.Refuse.{found}
 use Rattle.board.specs.declared.close.Closing.{Closing}
 use Rattle.board.specs.declared.close.Closing.TheVariants.{Clash, Closed as AllClosed}
@@ -63,7 +63,7 @@ done_told es n {end} {vs} e w t =
 -- ---- refused, and accepted
 
 module _ (g : CloseGiven) where
-  pub closes_refused : {a : Refusal} → Refused a ≡ found (close_refusal g)
+  pub closes_refused : {a : Refusal} → Err a ≡ found (close_refusal g)
       → Closes g (record { answer = CloseAnswer.Refused a; rounds = 0; set = 0 }) g.values
   unfolding close_report_of close_values_after
   closes_refused e =
@@ -73,7 +73,7 @@ module _ (g : CloseGiven) where
         values_are = ap (λ (o : Option Refusal). close_values_if o g.vars (closed_set g) g.values) (sym o);
       }
 
-  module _ (e : NotRefused ≡ found (setup_refusal (close_setup g))) where
+  module _ (e : Ok tt ≡ found (setup_refusal (close_setup g))) where
     values_len : length (take g.vars g.values) ≡ g.vars
     values_len = length-take-le g.vars g.values (open_run (close_setup g) e).listed.lent.status_fits
 

@@ -72,13 +72,12 @@ pub fn close(entries: &[i32], vars: u32, held: &[i32], values: &mut [u8]) -> Clo
 {
     let bad_limits = rules::MAX_VARS < vars;
     let short = values.len() < vars as usize;
-    let checked = refusals::refuse(bad_limits, short, entries, vars, held);
-    match checked {
-        refusals::Checked::Refused(refusal) => CloseReport {
+    if let Err(refusal) = refusals::refuse(bad_limits, short, entries, vars, held) {
+        return CloseReport {
             answer: CloseAnswer::Refused(refusal),
             rounds: 0,
             set: 0,
-        },
-        refusals::Checked::Accepted => with_held(entries, held, &mut values[..vars as usize]),
+        };
     }
+    with_held(entries, held, &mut values[..vars as usize])
 }

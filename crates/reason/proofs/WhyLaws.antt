@@ -1,13 +1,13 @@
 -- The laws of `why`: what is refused, and what is accepted.
 --
---   first_refused, first_accepted     what is refused first is refused, and else what comes behind it
+--   found_some, found_none     what is refused, off what is found
 --   accepted, asks_of, explains_refused, explains_accepted     what no rule refuses, and the contract
 --
 -- Assumes nothing.
 use mathlib.Core.Path.{◌≡◌, refl, sym, ◌∙◌, ap}
 use mathlib.Core.List.{List, ◌++◌}
 use mathlib.Core.Option.{Option, none, some}
-use Prim.Native.Nat.{ℕ}
+use Prim.Native.Nat.{ℕ, ◌≤◌}
 use native.Mathlib.Omega.{arith}
 use lib.ListN.{length, take, drop}
 use lib.Seq.{length-take-le}
@@ -20,49 +20,43 @@ use Rattle.rules.specs.Why.{WhyGiven, WhyAccepted, Explains, question_of, why, w
 use Rattle.rules.proofs.ListLaws.{apart}
 use Rattle.rules.proofs.ClauseLaws.{length-clauses}
 use Rattle.rules.proofs.WhyRefused.{or_else, first_of_append, why_refused, why_accepted, refused_nothing, accepted_all}
-use Rattle.refusals.specs.declared.Checked.{Checked}
-use Rattle.refusals.specs.declared.Checked.TheVariants.{Accepted, Refused}
+use Rattle.std.specs.Prelude.{Result, Ok, Err}
 use Rattle.refusals.specs.Refuse.{found}
 use Rattle.reason.specs.Asks.{Asks, EndsAs, question}
 
 -- ---- what is found
 
-found_some : (o : Option Refusal) {a : Refusal} → Refused a ≡ found o → o ≡ some a
+found_some : (o : Option Refusal) {a : Refusal} → Err a ≡ found o → o ≡ some a
 found_some none e = apart cc
 found_some (some b) e = cc
 
-found_none : (o : Option Refusal) → Accepted ≡ found o → o ≡ none
+found_none : (o : Option Refusal) → Ok tt ≡ found o → o ≡ none
 found_none none e = refl
 found_none (some b) e = apart cc
-
--- what is refused first is refused, and else what comes behind it
-module _ (xs ys : List (Check Refusal)) where
-  pub first_refused : {a : Refusal} → Refused a ≡ found (first_of xs) → Refused a ≡ found (first_of (xs ++ ys))
-  first_refused e = sym (ap found (first_of_append xs ys ∙ ap (λ (o : Option Refusal). or_else o (first_of ys)) (found_some (first_of xs) e)))
-
-  pub first_accepted : Accepted ≡ found (first_of xs) → found (first_of ys) ≡ found (first_of (xs ++ ys))
-  first_accepted e = sym (ap found (first_of_append xs ys ∙ ap (λ (o : Option Refusal). or_else o (first_of ys)) (found_none (first_of xs) e)))
 
 -- ---- the contract
 
 module _ (g : WhyGiven) where
   -- what code finds
-  abbrev pub why_found : Checked
+  abbrev pub why_found : Result (Unit {0}) Refusal
   why_found = found (first_of (why_rules g.entries g.vars g.literal (length g.marks) (length g.values)))
 
   refusal_found : why_found ≡ found (why_refusal g)
   unfolding why_refusal
   refusal_found = refl
 
-  pub explains_refused : {a : Refusal} → Refused a ≡ why_found
+  pub explains_refused : {a : Refusal} → Err a ≡ why_found
       → Explains g (record { answer = WhyAnswer.Refused a; calls = 0; tries = 0 }) g.marks g.values
   explains_refused {a} e =
       let (r, m, v) = refused_nothing g a ((why_refused g a).0 (found_some (why_refusal g) (e ∙ refusal_found))) in
       record { result_is = sym r; marks_are = sym m; values_are = sym v }
 
-  module _ (e : Accepted ≡ why_found) where
+  module _ (e : Ok tt ≡ why_found) where
     pub accepted : WhyAccepted g
     accepted = (why_accepted g).0 (found_none (why_refusal g) (e ∙ refusal_found))
+
+    pub marks_fit : 1024 ≤ length g.marks
+    marks_fit = accepted.lent.marks_fit
 
     values_len : length (take g.vars g.values) ≡ g.vars
     values_len = length-take-le g.vars g.values accepted.lent.values_fit

@@ -10,8 +10,6 @@ mod marks;
 mod refuse;
 mod visit;
 
-use refusals::Checked;
-
 // Marks clauses that alone force a literal, none of which can go; or writes a model that has it false. Every list, every literal and
 // every pair of buffers is answered; what is refused writes nothing.
 // Rules out: all clauses marked; a clause marked that can go.
@@ -26,22 +24,19 @@ pub fn why(
     ensures { Explains (why_given entries.now vars literal.0 budget marks.old values.old)
         result marks.new values.new }
 {
-    let checked = refuse::refuse(entries, vars, literal, marks.len(), values.len());
-    match checked {
-        Checked::Refused(refusal) => rules::WhyReport {
+    if let Err(refusal) = refuse::refuse(entries, vars, literal, marks.len(), values.len()) {
+        return rules::WhyReport {
             answer: rules::WhyAnswer::Refused(refusal),
             calls: 0,
             tries: 0,
-        },
-        Checked::Accepted => {
-            let n = vars as usize;
-            ask::with_room(
-                entries,
-                literal,
-                &mut marks[..rules::MAX_MARKS],
-                &mut values[..n],
-                budget,
-            )
-        }
+        };
     }
+    let n = vars as usize;
+    ask::with_room(
+        entries,
+        literal,
+        &mut marks[..rules::MAX_MARKS],
+        &mut values[..n],
+        budget,
+    )
 }

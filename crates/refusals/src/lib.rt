@@ -3,105 +3,91 @@
 #![tactic(auto)]
 
 ghost use Rattle.std.specs.Prelude.{◌≡◌};
-ghost use Rattle.rules.specs.Lists.{nth_index, first_of, is_zero};
+ghost use Rattle.rules.specs.Lists.{first_of, is_zero};
 ghost use Rattle.rules.specs.Answer.{is_ended, is_above, list_rules, taking_rules, out_of_limits, too_short};
-ghost use Rattle.refusals.specs.Refuse.{found};
+ghost use Rattle.refusals.specs.Refuse.{found, nth_within};
 
-use rules::Refusal;
+use formula::lit::var_of;
+use rules::{Lit, Refusal};
 
 pub mod held;
-
-// What the rules say of a list.
-#[derive(Clone, Copy)]
-pub enum Checked {
-    Accepted,
-    Refused(Refusal),
-}
 
 // Whether a list is empty or ended by 0.
 fn is_ended(entries: &[i32]) -> bool
     ensures { result ≡ is_ended entries.now }
 {
-    let n = entries.len();
-    if n == 0 {
+    let Some(&last) = entries.last() else {
         return true;
-    }
-    let last = entries[n - 1];
+    };
     last == 0
 }
 
-// The index of the zero that has n zeros before it, or the length.
-fn nth_zero(entries: &[i32], n: u32) -> usize
-    ensures { result ≡ nth_index is_zero entries.now n }
+// The index of the zero that has n zeros before it, if there is one.
+fn nth_zero(entries: &[i32], n: u32) -> Option<usize>
+    ensures { result ≡ nth_within is_zero entries.now n }
 {
     let mut left = n;
-    let mut i: usize = 0;
-    while i < entries.len() {
-        let at = i;
-        let entry = entries[at];
-        i += 1;
+    for (i, &entry) in entries.iter().enumerate() {
         if entry == 0 {
             if left == 0 {
-                return at;
+                return Some(i);
             }
             left -= 1;
         }
     }
-    i
+    None
 }
 
-// The index of the first entry with a variable above V, or the length.
-fn first_above(entries: &[i32], vars: u32) -> usize
-    ensures { result ≡ nth_index (is_above vars) entries.now 0 }
+// The index of the first entry with a variable above V, if there is one.
+fn first_above(entries: &[i32], vars: u32) -> Option<usize>
+    ensures { result ≡ nth_within (is_above vars) entries.now 0 }
 {
-    let mut i: usize = 0;
-    while i < entries.len() {
-        let v = formula::lit::var_of(rules::Lit(entries[i]));
-        if vars < v.0 {
-            return i;
-        }
-        i += 1;
-    }
-    i
+    entries
+        .iter()
+        .position(|&entry| vars < var_of(Lit(entry)).0)
 }
 
 // Why a list is refused, if it is: 11 and 12, whoever takes it. Every list and every V is answered.
 // Rules out: a list that is not ended accepted; 12 before a case of 11.
-fn refuse_list(entries: &[i32], vars: u32) -> Checked
+fn refuse_list(entries: &[i32], vars: u32) -> Result<(), Refusal>
     ensures { result ≡ found (first_of (list_rules entries.now vars)) }
 {
     if rules::MAX_ENTRIES < entries.len() {
-        return Checked::Refused(Refusal::BadList(rules::MAX_ENTRIES));
+        return Err(Refusal::BadList(rules::MAX_ENTRIES));
     }
     if !is_ended(entries) {
-        return Checked::Refused(Refusal::BadList(entries.len()));
+        return Err(Refusal::BadList(entries.len()));
     }
-    let over = nth_zero(entries, rules::MAX_CLAUSES);
-    if over < entries.len() {
-        return Checked::Refused(Refusal::BadList(over));
+    if let Some(over) = nth_zero(entries, rules::MAX_CLAUSES) {
+        return Err(Refusal::BadList(over));
     }
-    let above = first_above(entries, vars);
-    if above < entries.len() {
-        return Checked::Refused(Refusal::EntryOverVars(above));
+    if let Some(above) = first_above(entries, vars) {
+        return Err(Refusal::EntryOverVars(above));
     }
-    Checked::Accepted
+    Ok(())
 }
 
 // Why a list with held literals is refused, if it is, whoever takes it: 10 where its limits are bad, 1 where a buffer is too short, then the
 // list's own, then the held literals'.
 // Rules out: 11 before 1; 13 before 12.
-pub fn refuse(bad_limits: bool, short: bool, entries: &[i32], vars: u32, held: &[i32]) -> Checked
+#[tactic(auto, using(crate::proofs::FoundLaws::after_list, crate::proofs::FoundLaws::of_list))]
+pub fn refuse(
+    bad_limits: bool,
+    short: bool,
+    entries: &[i32],
+    vars: u32,
+    held: &[i32],
+) -> Result<(), Refusal>
     ensures { result ≡ found (first_of (taking_rules bad_limits short entries.now vars held.now)) }
 {
     if bad_limits {
-        return Checked::Refused(Refusal::BadLimits);
+        return Err(Refusal::BadLimits);
     }
     if short {
-        return Checked::Refused(Refusal::ShortBuffer);
+        return Err(Refusal::ShortBuffer);
     }
-    let list = refuse_list(entries, vars);
-    let literals = held::refuse_held(held, vars);
-    held::first_of(list, literals)
+    refuse_list(entries, vars)?;
+    held::refuse_held(held, vars)
 }
 
 // Whether a run's limits are not allowed.

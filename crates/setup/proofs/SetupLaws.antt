@@ -8,7 +8,7 @@
 use mathlib.Core.Path.{◌≡◌, sym, ◌∙◌, ap}
 use mathlib.Core.List.{List, ◌++◌}
 use mathlib.Core.Option.{Option, none}
-use Prim.Native.Nat.{ℕ}
+use Prim.Native.Nat.{ℕ, ◌≤◌}
 use lib.IntN.{ℤ}
 use lib.ListN.{length, take, drop}
 use lib.Seq.{length-take-le}
@@ -25,7 +25,7 @@ use Rattle.rules.specs.RunRefusals.{Accepted}
 use Rattle.rules.specs.Setup.{SetupGiven, setup_refusal, setup_run, setup_call, setup_report, setup_values, setup_report_if, setup_report_of, setup_values_if}
 use Rattle.rules.specs.Setup.{setup_values_after, SetsUp}
 use Rattle.rules.proofs.SetupTheorems.{refusal_same}
-use Rattle.refusals.specs.declared.Checked.TheVariants.{Accepted as NotRefused, Refused}
+use Rattle.std.specs.Prelude.{Ok, Err}
 use Rattle.refusals.specs.Refuse.{found}
 use Rattle.search.specs.declared.call.CallEnd.{CallEnd}
 use Rattle.search.specs.Calls.{values_after, CallEnds}
@@ -61,7 +61,7 @@ done_told es n budget {end} w t =
 -- ---- refused, and accepted
 
 module _ (g : SetupGiven) where
-  pub sets_up_refused : {a : Refusal} → Refused a ≡ found (setup_refusal g)
+  pub sets_up_refused : {a : Refusal} → Err a ≡ found (setup_refusal g)
       → SetsUp g (record { answer = RunAnswer.Refused a; calls = 0; tries = 0; forced = 0; free = 0 }) g.values
   unfolding setup_report_of setup_values_after
   sets_up_refused e =
@@ -71,12 +71,15 @@ module _ (g : SetupGiven) where
         values_are = ap (λ (o : Option Refusal). setup_values_if o g.vars (setup_call g) g.values) (sym o);
       }
 
-  module _ (e : NotRefused ≡ found (setup_refusal g)) where
-    as_run : NotRefused ≡ found (refusal_of (setup_run g))
+  module _ (e : Ok tt ≡ found (setup_refusal g)) where
+    as_run : Ok tt ≡ found (refusal_of (setup_run g))
     as_run = e ∙ ap found (refusal_same g)
 
     pub open_run : Accepted (setup_run g)
     open_run = run-laws.accepted (setup_run g) as_run
+
+    pub values_fit : g.vars ≤ length g.values
+    values_fit = open_run.listed.lent.status_fits
 
     values_len : length (take g.vars g.values) ≡ g.vars
     values_len = length-take-le g.vars g.values open_run.listed.lent.status_fits

@@ -9,7 +9,7 @@ ghost use Rattle.setup.specs.Called.{bits_if, Told, SetupTaken, SetupDone};
 use backbone::first::first_call;
 use buffers::bits::write_bits;
 use formula::starts::find_starts;
-use rules::{Outcome, Report};
+use rules::{Outcome, Report, RunAnswer};
 use search::call::CallEnd;
 
 // A model's values become bits; where there is no model they are zeros and stay.
@@ -75,17 +75,14 @@ pub fn setup(entries: &[i32], vars: u32, held: &[i32], budget: u32, values: &mut
 {
     let bad_limits = rules::MAX_VARS < vars;
     let short = values.len() < vars as usize;
-    let checked = refusals::refuse(bad_limits, short, entries, vars, held);
-    match checked {
-        refusals::Checked::Refused(refusal) => Report {
-            answer: rules::RunAnswer::Refused(refusal),
+    if let Err(refusal) = refusals::refuse(bad_limits, short, entries, vars, held) {
+        return Report {
+            answer: RunAnswer::Refused(refusal),
             calls: 0,
             tries: 0,
             forced: 0,
             free: 0,
-        },
-        refusals::Checked::Accepted => {
-            with_held(entries, held, &mut values[..vars as usize], budget)
-        }
+        };
     }
+    with_held(entries, held, &mut values[..vars as usize], budget)
 }

@@ -35,7 +35,7 @@ use Rattle.rules.proofs.StatusLaws.{length-forced_values}
 use Rattle.rules.proofs.RunTheorems.{run_answer_lem, run_statuses}
 use Rattle.rules.proofs.BufferTheorems.{status_written, length_status_after}
 use Rattle.texts.proofs.ShorterTheorems.{shorter_refused, shorter_accepted, task_same, report_same, shorter_nothing, shorter_room, shorter_written}
-use Rattle.refusals.specs.declared.Checked.TheVariants.{Accepted as NotRefused, Refused}
+use Rattle.std.specs.Prelude.{Ok, Err}
 use Rattle.refusals.specs.Refuse.{found}
 use Rattle.backbone.proofs.RunLaws as run-laws
 use Rattle.formula.specs.Starts.{starts_of}
@@ -212,11 +212,11 @@ lent g acc =
     }
 
 module _ (g : ShorterGiven) where
-  pub shortens_refused : {a : Refusal} → Refused a ≡ found (shorter_refusal g)
+  pub shortens_refused : {a : Refusal} → Err a ≡ found (shorter_refusal g)
       → Shortens g (record { run = record { answer = RunAnswer.Refused a; calls = 0; tries = 0; forced = 0; free = 0 }; length = 0 }) g.text
   shortens_refused {a} e =
       let (result, text) = shorter_nothing g a ((shorter_refused g a).0 (run-laws.found_some (shorter_refusal g) e)) in
       record { result_is = sym result; text_is = sym text }
 
-  pub open_run : NotRefused ≡ found (shorter_refusal g) → Accepted (shorter_run g)
+  pub open_run : Ok tt ≡ found (shorter_refusal g) → Accepted (shorter_run g)
   open_run e = (shorter_accepted g).0 (run-laws.found_none (shorter_refusal g) e)

@@ -146,9 +146,8 @@ pub fn shorter(
 {
     let bad_limits = refusals::out_of_limits(vars, chunk_limit);
     let short = text.len() < rules::MAX_TEXT;
-    let checked = refusals::refuse(bad_limits, short, entries, vars, &entries[..0]);
-    match checked {
-        refusals::Checked::Refused(refusal) => ShorterReport {
+    if let Err(refusal) = refusals::refuse(bad_limits, short, entries, vars, &entries[..0]) {
+        return ShorterReport {
             run: Report {
                 answer: RunAnswer::Refused(refusal),
                 calls: 0,
@@ -157,7 +156,7 @@ pub fn shorter(
                 free: 0,
             },
             length: 0,
-        },
-        refusals::Checked::Accepted => made(entries, vars, budget, chunk_limit, text),
+        };
     }
+    made(entries, vars, budget, chunk_limit, text)
 }

@@ -1,6 +1,5 @@
 -- The laws of specs/Constraint: the literal of a candidate, negated; and putting one index after the other is putting the lowest.
 --
---   false_low, false_high     the literal that is false, by the byte, as code tests it
 --   var_of_false               its variable
 --   Putting, putting_start, putting_step, putting_done     the loop of `put_constraint`
 --
@@ -8,30 +7,18 @@
 use mathlib.Core.Path.{◌≡◌, refl, sym, ◌∙◌, ap}
 use mathlib.Core.Logic.{◌≢◌}
 use mathlib.Core.List.{List, [], ◌∷◌, ◌++◌, append-nil}
-use Prim.Native.Nat.{ℕ, zero, suc, pred, ◌+◌, ◌-◌, ◌≤◌, ◌<◌}
+use Prim.Native.Nat.{ℕ, zero, suc, ◌+◌, ◌-◌, ◌≤◌, ◌<◌}
 use native.Mathlib.Omega.{arith}
 use native.Mathlib.Numerals.{add-one}
-use lib.IntN.{ℤ, pos}
+use lib.IntN.{ℤ}
 use lib.ListN.{length, get_or, set, take, drop, length-set, length-take, length-map, drop_of_length-le}
-use lib.Seq.{drop-cons, take-suc-set, drop-set-lt, append_snoc}
+use lib.Seq.{take-nil, drop-cons, take-suc-set, drop-set-lt, append_snoc}
 use Rattle.rules.specs.Meaning.{var_of, negated}
 use Rattle.rules.specs.Run.{opens, literal_at, candidates_from, constraint}
 use Rattle.rules.proofs.StatusLaws.{length_candidates}
 use Rattle.steps.specs.Constraint.{PutsAt, candidate, full, settled, ConstraintPut}
 
 -- ---- one literal
-
-pub false_low : (v b : ℕ) → 1 ≤ v → b < 2 → pos v ≡ negated (literal_at (pred v) b)
-false_low zero b h l = absurd (omega arith)
-false_low (suc v) zero h l = refl
-false_low (suc v) (suc zero) h l = refl
-false_low (suc v) (suc (suc b)) h l = absurd (omega arith)
-
-pub false_high : (v b : ℕ) → 1 ≤ v → 2 ≤ b → negated (pos v) ≡ negated (literal_at (pred v) b)
-false_high zero b h l = absurd (omega arith)
-false_high (suc v) zero h l = absurd (omega arith)
-false_high (suc v) (suc zero) h l = absurd (omega arith)
-false_high (suc v) (suc (suc b)) h l = refl
 
 pub var_of_false : (i b : ℕ) → var_of (negated (literal_at i b)) ≡ suc i
 var_of_false i zero = refl
@@ -132,11 +119,7 @@ putting_done {first} {status} {chunk} {k} {i} {before} {now} e o c w h =
     put : take k now ≡ constraint (take chunk (candidates_from 0 first status))
     put =
         sym (append-nil (take k now)) ∙ ap (λ (xs : List ℤ). take k now ++ constraint xs)
-        (sym (take_nil' (chunk - k)) ∙ ap (take (chunk - k)) (sym no_more)) ∙ w.todo
-      where
-        take_nil' : (n : ℕ) → ◌≡◌ {A = List ℤ} (take n []) []
-        take_nil' zero = refl
-        take_nil' (suc n) = refl
+        (sym (take-nil (chunk - k)) ∙ ap (take (chunk - k)) (sym no_more)) ∙ w.todo
 
     full_up : chunk ≡ k
     full_up =

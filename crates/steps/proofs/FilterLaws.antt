@@ -1,7 +1,7 @@
 -- The laws of specs/Filter: freeing one index after the other is freeing them all.
 --
 --   opens-set         one open variable that is freed is one open variable less
---   drops_open, drops_closed, drops_not     one index: open and passing, not open, not passing
+--   drops_open, drops_closed     one index: open and passing, not open, not passing
 --   Filtering, filtering_start, filtering_step, filtering_done     the loop of compare and of flip
 --
 -- Assumes nothing.
@@ -39,9 +39,6 @@ drops_open ss i b h e z = record { freed = rw (e, z); counted = opens-set ss i h
 pub drops_closed : (ss : List ℕ) (i : ℕ) (b : Bool) → get_or ss i 0 ≢ 0 → DropsAt i b ss 0 ss
 drops_closed ss i b n =
     record { freed = sym (ap (set ss i) (freed_if_closed b (get_or ss i 0) n) ∙ set-get_or ss i 0); counted = omega arith }
-
-pub drops_not : (ss : List ℕ) (i : ℕ) (b : Bool) → b ≡ false → DropsAt i b ss 0 ss
-drops_not ss i b e = record { freed = rw e (sym (set-get_or ss i 0)); counted = omega arith }
 
 -- ---- freeing from index n on
 

@@ -1,44 +1,35 @@
 -- The laws of specs/Flip: a variable flipped and taken back.
 --
---   other_byte_high    the other byte of 2
 --   taken_back        a byte stored and stored back
---   flip_test_is       what `flip_test` does
 --   tested_at         at an index
 --   flip_by_first     the first false clause is what the flip test answers
---   Flipping, flipping_start, flipping_step, flipping_done     the loop of `flip`
 --   none_may          that no clause was found is that the flip may be made
---   flips_open, flips_closed     what `flip_at` does at an open variable, and at another
+--   Flipping, flipping_step, flipping_done     the loop of `flip`
+--   flips_open     what `flip_at` does at an open variable, and at another
 --
 -- Assumes nothing.
 use mathlib.Core.Path.{◌≡◌, refl, sym, ◌∙◌, ap}
-use mathlib.Core.Logic.{◌≢◌}
 use mathlib.Core.Bool.{Bool, true, false, not}
 use mathlib.Core.List.{List}
 use mathlib.Core.Option.{Option, none, some}
-use Prim.Native.Nat.{ℕ, zero, suc, pred, ◌+◌, ◌≤◌, ◌<◌}
-use native.Mathlib.Omega.{arith}
+use Prim.Native.Nat.{ℕ, pred, ◌+◌, ◌≤◌, ◌<◌}
 use native.Mathlib.Numerals.{add-one}
 use lib.ListN.{length, get_or, set}
 use lib.Seq.{set-set, set-get_or}
 use Rattle.rules.specs.declared.ClauseNo.{ClauseNo}
 use Rattle.std.specs.declared.option.Option.{Option as Outcome}
 use Rattle.std.specs.Prelude.{Some, None, is_some}
-use Rattle.rules.specs.Meaning.{Clause, Values, first_false}
-use Rattle.rules.specs.Run.{other_byte, flipped, can_flip}
+use Rattle.rules.specs.Meaning.{Clause, Values}
+use Rattle.rules.specs.Run.{can_flip}
 use Rattle.rules.specs.Hints.{flip_by, flip_test, may_flip}
 use Rattle.formula.specs.Formula.{first_false_of}
 use Rattle.steps.specs.Filter.{DropsAt}
 use Rattle.steps.specs.Flip.{FlipTested, FlipsAt, Flips}
-use Rattle.steps.proofs.FilterLaws.{drops_closed, Filtering, filtering_start, filtering_step, filtering_done}
-use Rattle.rules.proofs.ListLaws.{apart, get_d_default}
+use Rattle.steps.proofs.FilterLaws.{Filtering, filtering_step, filtering_done}
+use Rattle.rules.proofs.ListLaws.{apart}
 use Rattle.rules.proofs.HintLaws.{can_flip-may_flip}
 
 -- ---- a flip
-
-pub other_byte_high : (b : ℕ) → b ≢ 0 → b ≢ 1 → other_byte b ≡ 1
-other_byte_high zero n m = absurd (n refl)
-other_byte_high (suc zero) n m = absurd (m refl)
-other_byte_high (suc (suc b)) n m = refl
 
 pub taken_back : (vs : Values) (i b : ℕ) → set (set vs i b) i (get_or vs i 0) ≡ vs
 taken_back vs i b = set-set vs i b (get_or vs i 0) ∙ set-get_or vs i 0
@@ -46,18 +37,6 @@ taken_back vs i b = set-set vs i b (get_or vs i 0) ∙ set-get_or vs i 0
 pub flip_by_first : (o : Option ℕ) → first_false_of o ≡ flip_by o
 flip_by_first none = refl
 flip_by_first (some n) = refl
-
--- `byte` is the variable's, and `other` the other one
-pub flip_test_is : {F : List Clause} {m : Values} {v at other : ℕ} {r : Outcome ClauseNo} → at + 1 ≡ v → at < length m → other ≡ other_byte (get_or m at 0)
-    → r ≡ first_false_of (first_false (set m at other) F) → FlipTested F v m r (set (set m at other) at (get_or m at 0))
-flip_test_is {F} {m} {v} {at} {other} {r} e h o s =
-    record { result_is = s ∙ flip_by_first _ ∙ ap (λ (w : Values). flip_by (first_false w F)) (same ∙ ap (flipped m) index); model_same = taken_back m at other }
-  where
-    same : set m at other ≡ flipped m at
-    same = ap (set m at) (o ∙ ap other_byte (get_d_default m at 0 1 h))
-
-    index : at ≡ pred v
-    index = omega arith
 
 -- ---- one index
 
@@ -76,17 +55,11 @@ flips_open {F} {i} {d} {m} {m'} {f} {r} c q w =
     let e : r ≡ can_flip F m i = q ∙ ap may_flip (tested_at i c) ∙ can_flip-may_flip F m i in
     record { drops = rw e at w; model_same = c.model_same }
 
-pub flips_closed : (F : List Clause) (i : ℕ) (m : Values) (ss : List ℕ) → get_or ss i 0 ≢ 0 → FlipsAt F i m ss 0 m ss
-flips_closed F i m ss n = record { drops = drops_closed ss i (can_flip F m i) n; model_same = refl }
-
 -- ---- the loop: the model is as it was, and what is left is to free behind i
 
 pub record Flipping (F : List Clause) (m₀ : Values) (before : List ℕ) (dropped i : ℕ) (m : Values) (now : List ℕ) : Type 0 where
   pub model_same : m ≡ m₀
   pub filtering : Filtering (can_flip F m₀) before dropped i now
-
-pub flipping_start : (F : List Clause) (m : Values) (ss : List ℕ) → Flipping F m ss 0 0 m ss
-flipping_start F m ss = record { model_same = refl; filtering = filtering_start (can_flip F m) ss }
 
 pub flipping_step : {F : List Clause} {m₀ m m' : Values} {before now after : List ℕ} {dropped i r : ℕ} → Flipping F m₀ before dropped i m now
     → i < length now → FlipsAt F i m now r m' after → Flipping F m₀ before (dropped + r) (i + 1) m' after

@@ -1,7 +1,6 @@
 -- The laws of specs/Hint: the loop of `put_hints`, and the hints of a model, or of nothing, by those of the rules.
 --
---   hinted_unset, hinted_set     what `hint_of` does
---   Hinting, hinting_start, hinting_step, hinting_done     the loop of `put_hints`
+--   Hinting, hinting_start, hinting_step     the loop of `put_hints`
 --   hints_of_total    where every variable is set these are the hints of the rules
 --   hints_of_blank    where none is set each is 0
 --
@@ -9,40 +8,22 @@
 use mathlib.Core.Path.{◌≡◌, refl, sym, ◌∙◌, ap}
 use mathlib.Core.Logic.{◌≢◌, ◌⊎◌, inl, inr}
 use mathlib.Core.List.{List}
-use Prim.Native.Nat.{ℕ, zero, suc, pred, ◌+◌, ◌≤◌, ◌<◌}
+use Prim.Native.Nat.{ℕ, zero, suc, pred, ◌+◌, ◌<◌}
 use native.Mathlib.Omega.{arith}
 use native.Mathlib.Numerals.{add-one}
 use lib.ListN.{length, get_or, set, replicate}
-use Rattle.std.specs.declared.option.Option.{Option}
-use Rattle.rules.specs.declared.ClauseNo.{ClauseNo}
 use Rattle.rules.specs.Lists.{tabled}
 use Rattle.rules.specs.Meaning.{Clause, Values, value_at, Total}
-use Rattle.rules.specs.Hints.{hint_number, hint_at}
+use Rattle.rules.specs.Hints.{hint_at}
 use Rattle.rules.proofs.ListLaws.{get_d_default, length-tabled, get_d_tabled, tabled_cong}
-use Rattle.buffers.proofs.FillLaws.{Filled, filled_start, filled_step, filled_done}
-use Rattle.steps.specs.Flip.{FlipTested}
-use Rattle.steps.specs.Hint.{hint_if, hint_in, Hinted, HintsPut}
+use Rattle.buffers.proofs.FillLaws.{Filled, filled_start, filled_step}
+use Rattle.steps.specs.Hint.{hint_if, hint_in, Hinted}
 
 -- ---- one hint
 
 hint_if-set : (b h : ℕ) → b ≢ 0 → hint_if b h ≡ h
 hint_if-set zero h n = absurd (n refl)
 hint_if-set (suc b) h n = refl
-
-module _ (F : List Clause) (vs : Values) (v at : ℕ) (e : at + 1 ≡ v) where
-  same_byte : get_or vs (pred v) 0 ≡ get_or vs at 0
-  same_byte = ap (λ (i : ℕ). get_or vs i 0) (omega arith)
-
-  pub hinted_unset : get_or vs at 0 ≡ 0 → Hinted F v vs 0 vs
-  hinted_unset z =
-      record { result_is = sym (ap (λ (b : ℕ). hint_if b (hint_at F vs (pred v))) (same_byte ∙ z)); values_same = refl }
-
-  pub hinted_set : {vs' : Values} {f : Option ClauseNo} {r : ℕ} → get_or vs at 0 ≢ 0 → FlipTested F v vs f vs' → r ≡ hint_number f → Hinted F v vs r vs'
-  hinted_set n w q =
-      record {
-        result_is = q ∙ ap hint_number w.result_is ∙ sym (hint_if-set (get_or vs (pred v) 0) (hint_at F vs (pred v)) (λ z. n (sym same_byte ∙ z)));
-        values_same = w.model_same;
-      }
 
 -- ---- the loop: what is put stands in front of i, and the values are as they were
 
@@ -66,9 +47,6 @@ hinting_step {F} {vs₀} {vs} {vs'} {i} {r} w h x =
     hint =
         x.result_is ∙ ap (hint_in F vs) (ap pred (add-one i)) ∙ ap (λ (ws : Values). hint_in F ws i) w.values_same ∙
         sym (get_d_tabled (hint_in F vs₀) 0 (length vs₀) i within ∙ ap (hint_in F vs₀) (omega arith))
-
-pub hinting_done : {F : List Clause} {vs₀ vs : Values} {i : ℕ} {hints : List ℕ} → Hinting F vs₀ i vs hints → length hints ≤ i → HintsPut F vs₀ vs hints
-hinting_done w h = record { hints_are = filled_done w.filled h; values_same = w.values_same }
 
 -- ---- by the rules
 

@@ -1,29 +1,22 @@
 -- The laws of specs/Records: putting one record after the other is putting them all.
 --
---   way_now_high, way_now_low       the way by the status, as code tests it
---   puts_new, puts_open, puts_settled     one index: newly settled, still open, settled before
+--   way_now_high       the way by the status, as code tests it
 --   length-new_from, new_from_at    an element of a buffer then
---   Recording, recording_start, recording_step, recording_done     the loop of `put_records`
+--   Recording, recording_step, recording_done     the loop of `put_records`
 --
 -- Assumes nothing.
 use mathlib.Core.Path.{◌≡◌, refl, sym, ◌∙◌, ap}
-use mathlib.Core.Logic.{◌≢◌}
-use mathlib.Core.Bool.{Bool, true, false, not}
+use mathlib.Core.Bool.{Bool, false}
 use mathlib.Core.List.{List, [], ◌∷◌}
 use Prim.Native.Nat.{ℕ, zero, suc, ◌+◌, ◌≤◌, ◌<◌}
 use native.Mathlib.Omega.{arith}
 use native.Mathlib.Nat.{add-zero, add-suc, suc-add, zero-add}
-use lib.Dec.{eqb}
 use lib.ListN.{length, get_or, set, length-set}
 use lib.Seq.{set-get_or}
 use Rattle.rules.specs.declared.Way.{Way}
-use Rattle.rules.specs.declared.Record.{Record}
-use Rattle.rules.specs.Numbers.{way_number}
 use Rattle.rules.specs.Meaning.{Values}
-use Rattle.rules.specs.Records.{way_if}
 use Rattle.buffers.proofs.FillLaws.{part, get_d_part, part_done, copied_more}
-use Rattle.steps.specs.Records.{way_now, record_now, is_new, new_if, new_from, way_byte, RecordsAt, RecordsPut, RecordsOver}
-use Rattle.steps.proofs.FilterLaws.{differs_read}
+use Rattle.steps.specs.Records.{way_now, is_new, new_if, new_from, way_byte, RecordsAt, RecordsPut, RecordsOver}
 
 -- ---- the way
 
@@ -32,43 +25,11 @@ way_now_high zero other h = absurd (omega arith)
 way_now_high (suc zero) other h = absurd (omega arith)
 way_now_high (suc (suc s)) other h = refl
 
-pub way_now_low : (s : ℕ) (other : Bool) → s ≤ 1 → way_now s other ≡ way_if other
-way_now_low zero other h = refl
-way_now_low (suc zero) other h = refl
-way_now_low (suc (suc s)) other h = absurd (omega arith)
-
 -- ---- one index
 
-is_new_new : (s w : ℕ) → s ≢ 0 → w ≡ 0 → is_new s w ≡ true
-is_new_new zero w h z = absurd (h refl)
-is_new_new (suc s) zero h z = refl
-is_new_new (suc s) (suc w) h z = absurd (omega arith)
-
-is_new_open : (s w : ℕ) → s ≡ 0 → is_new s w ≡ false
-is_new_open zero w z = refl
-is_new_open (suc s) w z = absurd (omega arith)
-
-is_new_settled : (s w : ℕ) → w ≢ 0 → is_new s w ≡ false
-is_new_settled zero w h = refl
-is_new_settled (suc s) zero h = absurd (h refl)
-is_new_settled (suc s) (suc w) h = refl
-
 module _ (i call : ℕ) (first m : Values) (status calls ways : List ℕ) where
-  pub puts_new : i < length first → i < length m → get_or status i 0 ≢ 0 → get_or ways i 0 ≡ 0 → {r : Record} {byte : ℕ}
-      → r ≡ record_now (get_or status i 0) call (not (eqb (get_or m i 0) (get_or first i 0))) → byte ≡ way_number r.way
-      → RecordsAt i call first m status calls ways (set calls i r.call) (set ways i byte)
-  puts_new a b h z e f =
-      let n = is_new_new (get_or status i 0) (get_or ways i 0) h z in
-      record { calls_are = rw (n, e); ways_are = rw (n, differs_read first m i a b, f, e) }
-
   stays : is_new (get_or status i 0) (get_or ways i 0) ≡ false → RecordsAt i call first m status calls ways calls ways
   stays n = record { calls_are = rw n (sym (set-get_or calls i 0)); ways_are = rw n (sym (set-get_or ways i 0)) }
-
-  pub puts_open : get_or status i 0 ≡ 0 → RecordsAt i call first m status calls ways calls ways
-  puts_open z = stays (is_new_open (get_or status i 0) (get_or ways i 0) z)
-
-  pub puts_settled : get_or ways i 0 ≢ 0 → RecordsAt i call first m status calls ways calls ways
-  puts_settled h = stays (is_new_settled (get_or status i 0) (get_or ways i 0) h)
 
 -- ---- an element of a buffer
 
@@ -97,9 +58,6 @@ pub record Recording (call : ℕ) (first m : Values) (status calls₀ ways₀ : 
   pub ways_are : ways ≡ part (new_from 0 (way_byte first m) status ways₀ ways₀) ways₀ i
 
 module _ {call : ℕ} {first m : Values} {status calls₀ ways₀ : List ℕ} (o : RecordsOver first m status calls₀ ways₀) where
-  pub recording_start : Recording call first m status calls₀ ways₀ 0 calls₀ ways₀
-  recording_start = record { within = omega arith; calls_len = o.calls_len; ways_len = o.ways_len; calls_are = refl; ways_are = refl }
-
   pub recording_step : {i : ℕ} {calls ways calls-after ways-after : List ℕ} → Recording call first m status calls₀ ways₀ i calls ways → i < length status
       → RecordsAt i call first m status calls ways calls-after ways-after → Recording call first m status calls₀ ways₀ (i + 1) calls-after ways-after
   recording_step {i} {calls} {ways} {calls-after} {ways-after} w h f =

@@ -23,10 +23,8 @@ pub fn fill_start(status: &[u8], values: &mut [u8])
     requires { length status.now ≡ length values.old }
     ensures { values.new ≡ forced_values status.now }
 {
-    let mut i: usize = 0;
-    while i < values.len() {
-        values[i] = forced_value(status[i]);
-        i += 1;
+    for (i, value) in values.iter_mut().enumerate() {
+        *value = forced_value(status[i]);
     }
 }
 
@@ -60,9 +58,7 @@ pub fn force_first(first: &[u8], status: &mut [u8], chunk: u32)
     ensures { status.new ≡ force_first first.now status.old chunk }
 {
     let mut left = chunk;
-    let mut i: usize = 0;
-    while i < status.len() {
+    for i in 0..status.len() {
         left = force_if(first, status, i, left);
-        i += 1;
     }
 }

@@ -27,11 +27,9 @@ pub fn compare(first: &[u8], model: &[u8], status: &mut [u8]) -> u32
     ensures { Drops (differs first.now model.now) status.old result status.new }
 {
     let mut dropped: u32 = 0;
-    let mut i: usize = 0;
-    while i < status.len() {
+    for i in 0..status.len() {
         let other = model[i] != first[i];
         dropped += drop_if(status, i, other);
-        i += 1;
     }
     dropped
 }

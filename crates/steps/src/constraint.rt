@@ -41,9 +41,7 @@ pub fn put_constraint(first: &[u8], status: &[u8], chunk: usize, out: &mut [i32]
     ensures { ConstraintPut first.now status.now chunk out.old out.new }
 {
     let mut k: usize = 0;
-    let mut i: usize = 0;
-    while i < status.len() {
+    for i in 0..status.len() {
         k = put_if(first, status, i, chunk, out, k);
-        i += 1;
     }
 }

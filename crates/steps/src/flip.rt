@@ -27,12 +27,7 @@ pub fn other_byte(byte: u8) -> u8
 // makes false. The model is afterwards what it was: no flip is kept for the next.
 // Rules out: a flip that is kept; a clause that the forced literals make false.
 // Required of: flip_at and hint::hint_at, for a variable of the model.
-pub fn flip_test(
-    entries: &[i32],
-    starts: &[u16],
-    model: &mut [u8],
-    v: rules::Var,
-) -> Option<ClauseNo>
+pub fn flip_test(entries: &[i32], starts: &[u16], model: &mut [u8], v: rules::Var) -> Option<ClauseNo>
     requires { FlipTestOver entries.now starts.now model.old v.0 }
     ensures { FlipTested (clauses entries.now) v.0 model.old result model.new }
 {
@@ -65,10 +60,8 @@ pub fn flip(entries: &[i32], starts: &[u16], model: &mut [u8], status: &mut [u8]
     ensures { Flips (clauses entries.now) model.old status.old result model.new status.new }
 {
     let mut dropped: u32 = 0;
-    let mut i: usize = 0;
-    while i < status.len() {
+    for i in 0..status.len() {
         dropped += flip_at(entries, starts, model, status, i);
-        i += 1;
     }
     dropped
 }

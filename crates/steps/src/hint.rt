@@ -27,9 +27,7 @@ pub fn put_hints(entries: &[i32], starts: &[u16], first: &mut [u8], hints: &mut 
     requires { HintsOver entries.now starts.now first.old hints.old }
     ensures { HintsPut (clauses entries.now) first.old first.new hints.new }
 {
-    let mut i: usize = 0;
-    while i < hints.len() {
-        hints[i] = hint_of(entries, starts, first, rules::Var(i as u32 + 1));
-        i += 1;
+    for (i, hint) in hints.iter_mut().enumerate() {
+        *hint = hint_of(entries, starts, first, rules::Var(i as u32 + 1));
     }
 }

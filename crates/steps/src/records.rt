@@ -71,9 +71,7 @@ pub fn put_records(
     ensures { RecordsPut call first.now model.now status.now calls.old ways.old
         calls.new ways.new }
 {
-    let mut i: usize = 0;
-    while i < status.len() {
+    for i in 0..status.len() {
         put_record(first, model, status, calls, ways, i, call);
-        i += 1;
     }
 }

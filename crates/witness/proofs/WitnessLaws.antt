@@ -32,8 +32,7 @@ use Rattle.rules.specs.Witness.{first_after, witness_after, Witnesses, lent_for}
 use Rattle.rules.proofs.ClauseLaws.{length-clauses}
 use Rattle.rules.proofs.HeldLaws.{length-with_held, clauses_held, length-list_with, list_with_up_to}
 use Rattle.rules.proofs.WitnessTheorems.{asked_answered, asked_not_free}
-use Rattle.refusals.specs.declared.Checked.{Checked}
-use Rattle.refusals.specs.declared.Checked.TheVariants.{Accepted as NotRefused, Refused}
+use Rattle.std.specs.Prelude.{Result, Ok, Err}
 use Rattle.refusals.specs.Refuse.{found}
 use Rattle.calls.specs.Next.{task}
 use Rattle.backbone.proofs.RunLaws.{found_some, found_none}
@@ -98,7 +97,7 @@ module _ (a : Asked) where
       first_of (taking_rules (out_of_limits a.vars a.limit) (few_literals a.vars (length a.first) (length a.witness)) a.entries a.vars
       a.held)
 
-  pub checked_is : {bad short : Bool} {c : Checked} → bad ≡ out_of_limits a.vars a.limit
+  pub checked_is : {bad short : Bool} {c : Result (Unit {0}) Refusal} → bad ≡ out_of_limits a.vars a.limit
       → short ≡ few_literals a.vars (length a.first) (length a.witness)
       → c ≡ found (first_of (taking_rules bad short a.entries a.vars a.held)) → c ≡ found taking
   checked_is b s e = rw (b, s) at e
@@ -110,7 +109,7 @@ module _ (a : Asked) where
   unfolding asked_refusal
   refusal_by_lem o e b f = rw (e, f)
 
-  pub witnesses_refused : {r : Refusal} → Refused r ≡ found taking
+  pub witnesses_refused : {r : Refusal} → Err r ≡ found taking
       → Witnesses a (record { answer = RunAnswer.Refused r; calls = 0; tries = 0; forced = 0; free = 0 }) a.first a.witness
   unfolding asked_report first_after witness_after
   witnesses_refused {r} e =
@@ -152,7 +151,7 @@ module _ (a : Asked) where
       let free = ap (λ (k : Task). free_in (run k).progress a.variable) (sym same) ∙ f in
       rw same (answered_shown (refusal_by_lem none t true free))
 
-  module _ (e : NotRefused ≡ found taking) where
+  module _ (e : Ok tt ≡ found taking) where
     pub accepted : Accepted (lent_for a)
     accepted = go (free_in p a.variable) refl
       where

@@ -57,28 +57,25 @@ pub fn witness(
 {
     let bad_limits = refusals::out_of_limits(vars, chunk_limit);
     let short = few_literals(vars, first.len(), witness.len());
-    let checked = refusals::refuse(bad_limits, short, entries, vars, held);
-    match checked {
-        refusals::Checked::Refused(refusal) => rules::Report {
+    if let Err(refusal) = refusals::refuse(bad_limits, short, entries, vars, held) {
+        return rules::Report {
             answer: rules::RunAnswer::Refused(refusal),
             calls: 0,
             tries: 0,
             forced: 0,
             free: 0,
-        },
-        refusals::Checked::Accepted => {
-            let n = vars as usize;
-            with_held(
-                entries,
-                held,
-                variable,
-                &mut first[..n],
-                &mut witness[..n],
-                calls::next::Limits {
-                    budget: budget,
-                    chunk: chunk_limit,
-                },
-            )
-        }
+        };
     }
+    let n = vars as usize;
+    with_held(
+        entries,
+        held,
+        variable,
+        &mut first[..n],
+        &mut witness[..n],
+        calls::next::Limits {
+            budget: budget,
+            chunk: chunk_limit,
+        },
+    )
 }

@@ -2,7 +2,7 @@
 use mathlib.Core.Path.{◌≡◌, sym, ◌∙◌}
 use Rattle.rules.specs.Answer.{Given, given, buffers, refusal_of}
 use Rattle.rules.specs.RunRefusals.{Accepted}
-use Rattle.refusals.specs.declared.Checked.TheVariants.{Accepted as NotRefused}
+use Rattle.std.specs.Prelude.{Ok}
 use Rattle.refusals.specs.Refuse.{found}
 use Rattle.backbone.proofs.ListingLaws.{front_len}
 use Rattle.backbone.proofs.RunLaws.{checked_is, accepted, entries_most, is-formula, clauses_most, records_lent, hints_len, log_len, allowed}
@@ -16,8 +16,8 @@ slice_bounds-first-end c =
     (buffers c.args.status.now c.args.calls.now c.args.ways.now c.args.hints.now c.args.log.now) in
     let checked : c.refuse-checked.result ≡ found (refusal_of the_given) =
     checked_is the_given c.out_of_limits-bad_limits.ensures c.too_short-short.ensures c.refuse-checked.ensures in
-    let said : NotRefused ≡ found (refusal_of the_given) =
-    sym c.in-Accepted.is ∙ checked in
+    let said : Ok tt ≡ found (refusal_of the_given) =
+    sym c.in-Ok.is ∙ checked in
     let open_run : Accepted the_given =
     accepted the_given said in
     open_run.listed.lent.in_limits.vars_fit
@@ -29,138 +29,138 @@ slice_bounds-held_run-end c =
     (buffers c.args.status.now c.args.calls.now c.args.ways.now c.args.hints.now c.args.log.now) in
     let checked : c.refuse-checked.result ≡ found (refusal_of the_given) =
     checked_is the_given c.out_of_limits-bad_limits.ensures c.too_short-short.ensures c.refuse-checked.ensures in
-    let said : NotRefused ≡ found (refusal_of the_given) =
-    sym c.in-Accepted.is ∙ checked in
+    let said : Ok tt ≡ found (refusal_of the_given) =
+    sym c.in-Ok.is ∙ checked in
     let open_run : Accepted the_given =
     accepted the_given said in
     front_len _ _ open_run.listed.lent.in_limits.vars_fit
 
-pub slice_bounds-held_run-end-in-Accepted : goal.slice_bounds-held_run-end-in-Accepted
-slice_bounds-held_run-end-in-Accepted c =
+pub slice_bounds-held_run-end-in-Ok : goal.slice_bounds-held_run-end-in-Ok
+slice_bounds-held_run-end-in-Ok c =
     let the_given : Given =
     given c.args.entries.now c.args.vars c.args.held.now c.args.budget c.args.chunk_limit
     (buffers c.args.status.now c.args.calls.now c.args.ways.now c.args.hints.now c.args.log.now) in
     let checked : c.refuse-checked.result ≡ found (refusal_of the_given) =
     checked_is the_given c.out_of_limits-bad_limits.ensures c.too_short-short.ensures c.refuse-checked.ensures in
-    let said : NotRefused ≡ found (refusal_of the_given) =
-    sym c.in-Accepted.is ∙ checked in
+    let said : Ok tt ≡ found (refusal_of the_given) =
+    sym c.in-Ok.is ∙ checked in
     let open_run : Accepted the_given =
     accepted the_given said in
     open_run.listed.lent.status_fits
 
-pub slice_bounds-held_run-end-in-Accepted-2 : goal.slice_bounds-held_run-end-in-Accepted-2
-slice_bounds-held_run-end-in-Accepted-2 c =
+pub slice_bounds-held_run-end-in-Ok-2 : goal.slice_bounds-held_run-end-in-Ok-2
+slice_bounds-held_run-end-in-Ok-2 c =
     let the_given : Given =
     given c.args.entries.now c.args.vars c.args.held.now c.args.budget c.args.chunk_limit
     (buffers c.args.status.now c.args.calls.now c.args.ways.now c.args.hints.now c.args.log.now) in
     let checked : c.refuse-checked.result ≡ found (refusal_of the_given) =
     checked_is the_given c.out_of_limits-bad_limits.ensures c.too_short-short.ensures c.refuse-checked.ensures in
-    let said : NotRefused ≡ found (refusal_of the_given) =
-    sym c.in-Accepted.is ∙ checked in
+    let said : Ok tt ≡ found (refusal_of the_given) =
+    sym c.in-Ok.is ∙ checked in
     let open_run : Accepted the_given =
     accepted the_given said in
     front_len _ _ open_run.listed.lent.status_fits
 
-pub slice_bounds-held_run-end-in-Accepted-3 : goal.slice_bounds-held_run-end-in-Accepted-3
-slice_bounds-held_run-end-in-Accepted-3 c =
+pub slice_bounds-held_run-end-in-Ok-3 : goal.slice_bounds-held_run-end-in-Ok-3
+slice_bounds-held_run-end-in-Ok-3 c =
     let the_given : Given =
     given c.args.entries.now c.args.vars c.args.held.now c.args.budget c.args.chunk_limit
     (buffers c.args.status.now c.args.calls.now c.args.ways.now c.args.hints.now c.args.log.now) in
     let checked : c.refuse-checked.result ≡ found (refusal_of the_given) =
     checked_is the_given c.out_of_limits-bad_limits.ensures c.too_short-short.ensures c.refuse-checked.ensures in
-    let said : NotRefused ≡ found (refusal_of the_given) =
-    sym c.in-Accepted.is ∙ checked in
+    let said : Ok tt ≡ found (refusal_of the_given) =
+    sym c.in-Ok.is ∙ checked in
     let open_run : Accepted the_given =
     accepted the_given said in
     open_run.listed.lent.calls_fit
 
-pub slice_bounds-held_run-end-in-Accepted-4 : goal.slice_bounds-held_run-end-in-Accepted-4
-slice_bounds-held_run-end-in-Accepted-4 c =
+pub slice_bounds-held_run-end-in-Ok-4 : goal.slice_bounds-held_run-end-in-Ok-4
+slice_bounds-held_run-end-in-Ok-4 c =
     let the_given : Given =
     given c.args.entries.now c.args.vars c.args.held.now c.args.budget c.args.chunk_limit
     (buffers c.args.status.now c.args.calls.now c.args.ways.now c.args.hints.now c.args.log.now) in
     let checked : c.refuse-checked.result ≡ found (refusal_of the_given) =
     checked_is the_given c.out_of_limits-bad_limits.ensures c.too_short-short.ensures c.refuse-checked.ensures in
-    let said : NotRefused ≡ found (refusal_of the_given) =
-    sym c.in-Accepted.is ∙ checked in
+    let said : Ok tt ≡ found (refusal_of the_given) =
+    sym c.in-Ok.is ∙ checked in
     let open_run : Accepted the_given =
     accepted the_given said in
     front_len _ _ open_run.listed.lent.calls_fit
 
-pub slice_bounds-held_run-end-in-Accepted-5 : goal.slice_bounds-held_run-end-in-Accepted-5
-slice_bounds-held_run-end-in-Accepted-5 c =
+pub slice_bounds-held_run-end-in-Ok-5 : goal.slice_bounds-held_run-end-in-Ok-5
+slice_bounds-held_run-end-in-Ok-5 c =
     let the_given : Given =
     given c.args.entries.now c.args.vars c.args.held.now c.args.budget c.args.chunk_limit
     (buffers c.args.status.now c.args.calls.now c.args.ways.now c.args.hints.now c.args.log.now) in
     let checked : c.refuse-checked.result ≡ found (refusal_of the_given) =
     checked_is the_given c.out_of_limits-bad_limits.ensures c.too_short-short.ensures c.refuse-checked.ensures in
-    let said : NotRefused ≡ found (refusal_of the_given) =
-    sym c.in-Accepted.is ∙ checked in
+    let said : Ok tt ≡ found (refusal_of the_given) =
+    sym c.in-Ok.is ∙ checked in
     let open_run : Accepted the_given =
     accepted the_given said in
     open_run.listed.lent.ways_fit
 
-pub slice_bounds-held_run-end-in-Accepted-6 : goal.slice_bounds-held_run-end-in-Accepted-6
-slice_bounds-held_run-end-in-Accepted-6 c =
+pub slice_bounds-held_run-end-in-Ok-6 : goal.slice_bounds-held_run-end-in-Ok-6
+slice_bounds-held_run-end-in-Ok-6 c =
     let the_given : Given =
     given c.args.entries.now c.args.vars c.args.held.now c.args.budget c.args.chunk_limit
     (buffers c.args.status.now c.args.calls.now c.args.ways.now c.args.hints.now c.args.log.now) in
     let checked : c.refuse-checked.result ≡ found (refusal_of the_given) =
     checked_is the_given c.out_of_limits-bad_limits.ensures c.too_short-short.ensures c.refuse-checked.ensures in
-    let said : NotRefused ≡ found (refusal_of the_given) =
-    sym c.in-Accepted.is ∙ checked in
+    let said : Ok tt ≡ found (refusal_of the_given) =
+    sym c.in-Ok.is ∙ checked in
     let open_run : Accepted the_given =
     accepted the_given said in
     front_len _ _ open_run.listed.lent.ways_fit
 
-pub slice_bounds-held_run-end-in-Accepted-7 : goal.slice_bounds-held_run-end-in-Accepted-7
-slice_bounds-held_run-end-in-Accepted-7 c =
+pub slice_bounds-held_run-end-in-Ok-7 : goal.slice_bounds-held_run-end-in-Ok-7
+slice_bounds-held_run-end-in-Ok-7 c =
     let the_given : Given =
     given c.args.entries.now c.args.vars c.args.held.now c.args.budget c.args.chunk_limit
     (buffers c.args.status.now c.args.calls.now c.args.ways.now c.args.hints.now c.args.log.now) in
     let checked : c.refuse-checked.result ≡ found (refusal_of the_given) =
     checked_is the_given c.out_of_limits-bad_limits.ensures c.too_short-short.ensures c.refuse-checked.ensures in
-    let said : NotRefused ≡ found (refusal_of the_given) =
-    sym c.in-Accepted.is ∙ checked in
+    let said : Ok tt ≡ found (refusal_of the_given) =
+    sym c.in-Ok.is ∙ checked in
     let open_run : Accepted the_given =
     accepted the_given said in
     open_run.listed.lent.hints_fit
 
-pub slice_bounds-held_run-end-in-Accepted-8 : goal.slice_bounds-held_run-end-in-Accepted-8
-slice_bounds-held_run-end-in-Accepted-8 c =
+pub slice_bounds-held_run-end-in-Ok-8 : goal.slice_bounds-held_run-end-in-Ok-8
+slice_bounds-held_run-end-in-Ok-8 c =
     let the_given : Given =
     given c.args.entries.now c.args.vars c.args.held.now c.args.budget c.args.chunk_limit
     (buffers c.args.status.now c.args.calls.now c.args.ways.now c.args.hints.now c.args.log.now) in
     let checked : c.refuse-checked.result ≡ found (refusal_of the_given) =
     checked_is the_given c.out_of_limits-bad_limits.ensures c.too_short-short.ensures c.refuse-checked.ensures in
-    let said : NotRefused ≡ found (refusal_of the_given) =
-    sym c.in-Accepted.is ∙ checked in
+    let said : Ok tt ≡ found (refusal_of the_given) =
+    sym c.in-Ok.is ∙ checked in
     let open_run : Accepted the_given =
     accepted the_given said in
     front_len _ _ open_run.listed.lent.hints_fit
 
-pub slice_bounds-held_run-end-in-Accepted-9 : goal.slice_bounds-held_run-end-in-Accepted-9
-slice_bounds-held_run-end-in-Accepted-9 c =
+pub slice_bounds-held_run-end-in-Ok-9 : goal.slice_bounds-held_run-end-in-Ok-9
+slice_bounds-held_run-end-in-Ok-9 c =
     let the_given : Given =
     given c.args.entries.now c.args.vars c.args.held.now c.args.budget c.args.chunk_limit
     (buffers c.args.status.now c.args.calls.now c.args.ways.now c.args.hints.now c.args.log.now) in
     let checked : c.refuse-checked.result ≡ found (refusal_of the_given) =
     checked_is the_given c.out_of_limits-bad_limits.ensures c.too_short-short.ensures c.refuse-checked.ensures in
-    let said : NotRefused ≡ found (refusal_of the_given) =
-    sym c.in-Accepted.is ∙ checked in
+    let said : Ok tt ≡ found (refusal_of the_given) =
+    sym c.in-Ok.is ∙ checked in
     let open_run : Accepted the_given =
     accepted the_given said in
     open_run.listed.lent.log_fits
 
-pub slice_bounds-held_run-end-in-Accepted-10 : goal.slice_bounds-held_run-end-in-Accepted-10
-slice_bounds-held_run-end-in-Accepted-10 c =
+pub slice_bounds-held_run-end-in-Ok-10 : goal.slice_bounds-held_run-end-in-Ok-10
+slice_bounds-held_run-end-in-Ok-10 c =
     let the_given : Given =
     given c.args.entries.now c.args.vars c.args.held.now c.args.budget c.args.chunk_limit
     (buffers c.args.status.now c.args.calls.now c.args.ways.now c.args.hints.now c.args.log.now) in
     let checked : c.refuse-checked.result ≡ found (refusal_of the_given) =
     checked_is the_given c.out_of_limits-bad_limits.ensures c.too_short-short.ensures c.refuse-checked.ensures in
-    let said : NotRefused ≡ found (refusal_of the_given) =
-    sym c.in-Accepted.is ∙ checked in
+    let said : Ok tt ≡ found (refusal_of the_given) =
+    sym c.in-Ok.is ∙ checked in
     let open_run : Accepted the_given =
     accepted the_given said in
     front_len _ _ open_run.listed.lent.log_fits
@@ -172,8 +172,8 @@ held_run-requires c =
     (buffers c.args.status.now c.args.calls.now c.args.ways.now c.args.hints.now c.args.log.now) in
     let checked : c.refuse-checked.result ≡ found (refusal_of the_given) =
     checked_is the_given c.out_of_limits-bad_limits.ensures c.too_short-short.ensures c.refuse-checked.ensures in
-    let said : NotRefused ≡ found (refusal_of the_given) =
-    sym c.in-Accepted.is ∙ checked in
+    let said : Ok tt ≡ found (refusal_of the_given) =
+    sym c.in-Ok.is ∙ checked in
     let open_run : Accepted the_given =
     accepted the_given said in
     let g = the_given in
@@ -189,22 +189,22 @@ held_run-requires c =
       allowed = allowed g said;
     }
 
-pub returns-in-Refused : goal.returns-in-Refused
-returns-in-Refused c =
+pub returns-in-Err : goal.returns-in-Err
+returns-in-Err c =
     let the_given : Given =
     given c.args.entries.now c.args.vars c.args.held.now c.args.budget c.args.chunk_limit
     (buffers c.args.status.now c.args.calls.now c.args.ways.now c.args.hints.now c.args.log.now) in
     let checked : c.refuse-checked.result ≡ found (refusal_of the_given) =
     checked_is the_given c.out_of_limits-bad_limits.ensures c.too_short-short.ensures c.refuse-checked.ensures in
-    runs_refused the_given (sym c.in-Refused.is ∙ checked)
+    runs_refused the_given (sym c.in-Err.is ∙ checked)
 
-pub returns-in-Accepted : goal.returns-in-Accepted
-returns-in-Accepted c =
+pub returns-in-Ok : goal.returns-in-Ok
+returns-in-Ok c =
     let the_given : Given =
     given c.args.entries.now c.args.vars c.args.held.now c.args.budget c.args.chunk_limit
     (buffers c.args.status.now c.args.calls.now c.args.ways.now c.args.hints.now c.args.log.now) in
     let checked : c.refuse-checked.result ≡ found (refusal_of the_given) =
     checked_is the_given c.out_of_limits-bad_limits.ensures c.too_short-short.ensures c.refuse-checked.ensures in
-    let said : NotRefused ≡ found (refusal_of the_given) =
-    sym c.in-Accepted.is ∙ checked in
+    let said : Ok tt ≡ found (refusal_of the_given) =
+    sym c.in-Ok.is ∙ checked in
     runs_accepted the_given said c.held_run.ensures

@@ -1,63 +1,27 @@
 -- `close` meets its contract: what is refused writes nothing; what is accepted writes the front of the values. Assumes nothing.
-use mathlib.Core.Path.{◌≡◌, sym, ◌∙◌}
+use mathlib.Core.Path.{sym, ◌∙◌}
 use Rattle.rules.specs.Setup.{setup_refusal}
-use Rattle.rules.specs.Close.{CloseGiven, close_given, close_setup, close_refusal}
-use Rattle.refusals.specs.declared.Checked.TheVariants.{Accepted as NotRefused}
-use Rattle.refusals.specs.Refuse.{found}
-use Rattle.backbone.proofs.ListingLaws.{front_len}
-use Rattle.setup.proofs.SetupLaws.{open_run, taken}
+use Rattle.rules.specs.Close.{close_given, close_setup, close_refusal}
+use Rattle.setup.proofs.SetupLaws.{values_fit, taken}
 use Rattle.closing.proofs.CloseLaws.{closes_refused, closes_accepted}
 use Rattle.closing.proofs.close.Goals as goal
+
+pub returns-in-Err : goal.returns-in-Err
+unfolding setup_refusal close_refusal
+returns-in-Err c = closes_refused _ (sym c.in-Err.is ∙ c.refuse.ensures)
 
 pub slice_bounds-with_held-end : goal.slice_bounds-with_held-end
 unfolding setup_refusal
 slice_bounds-with_held-end c =
-    let the_given : CloseGiven =
-    close_given c.args.entries.now c.args.vars c.args.held.now c.args.values.now in
-    let checked : c.refuse-checked.result ≡ found (setup_refusal (close_setup the_given)) =
-    c.refuse-checked.ensures in
-    let said : NotRefused ≡ found (setup_refusal (close_setup the_given)) =
-    sym c.in-Accepted.is ∙ checked in
-    (open_run (close_setup the_given) said).listed.lent.status_fits
-
-pub slice_bounds-with_held-end-in-Accepted : goal.slice_bounds-with_held-end-in-Accepted
-unfolding setup_refusal
-slice_bounds-with_held-end-in-Accepted c =
-    let the_given : CloseGiven =
-    close_given c.args.entries.now c.args.vars c.args.held.now c.args.values.now in
-    let checked : c.refuse-checked.result ≡ found (setup_refusal (close_setup the_given)) =
-    c.refuse-checked.ensures in
-    let said : NotRefused ≡ found (setup_refusal (close_setup the_given)) =
-    sym c.in-Accepted.is ∙ checked in
-    front_len _ _ (open_run (close_setup the_given) said).listed.lent.status_fits
+    let a = c.args in
+    values_fit (close_setup (close_given a.entries.now a.vars a.held.now a.values.now)) (sym c.in_default.is ∙ c.refuse.ensures)
 
 pub with_held-requires : goal.with_held-requires
 unfolding setup_refusal
 with_held-requires c =
-    let the_given : CloseGiven =
-    close_given c.args.entries.now c.args.vars c.args.held.now c.args.values.now in
-    let checked : c.refuse-checked.result ≡ found (setup_refusal (close_setup the_given)) =
-    c.refuse-checked.ensures in
-    let said : NotRefused ≡ found (setup_refusal (close_setup the_given)) =
-    sym c.in-Accepted.is ∙ checked in
-    taken (close_setup the_given) said
+    let a = c.args in
+    taken (close_setup (close_given a.entries.now a.vars a.held.now a.values.now)) (sym c.in_default.is ∙ c.refuse.ensures)
 
-pub returns-in-Refused : goal.returns-in-Refused
-unfolding setup_refusal close_refusal
-returns-in-Refused c =
-    let the_given : CloseGiven =
-    close_given c.args.entries.now c.args.vars c.args.held.now c.args.values.now in
-    let checked : c.refuse-checked.result ≡ found (setup_refusal (close_setup the_given)) =
-    c.refuse-checked.ensures in
-    closes_refused the_given (sym c.in-Refused.is ∙ checked)
-
-pub returns-in-Accepted : goal.returns-in-Accepted
+pub returns : goal.returns
 unfolding setup_refusal
-returns-in-Accepted c =
-    let the_given : CloseGiven =
-    close_given c.args.entries.now c.args.vars c.args.held.now c.args.values.now in
-    let checked : c.refuse-checked.result ≡ found (setup_refusal (close_setup the_given)) =
-    c.refuse-checked.ensures in
-    let said : NotRefused ≡ found (setup_refusal (close_setup the_given)) =
-    sym c.in-Accepted.is ∙ checked in
-    closes_accepted the_given said c.with_held.ensures
+returns c = closes_accepted _ (sym c.in_default.is ∙ c.refuse.ensures) c.with_held.ensures

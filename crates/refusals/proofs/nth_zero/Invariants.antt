@@ -1,13 +1,7 @@
--- `nth_zero` meets its contract. The invariant of its loop: the index looked for is that in what is left. The measure is what
--- is left. Assumes nothing.
-use Prim.Native.Nat.{◌-◌}
-use lib.ListN.{length}
+-- `nth_zero` meets its contract. The invariant of its loop: the index looked for is that in what is left. Assumes nothing.
 use Rattle.rules.specs.Lists.{is_zero}
 use Rattle.refusals.proofs.RefuseLaws.{Seek}
 use Rattle.refusals.proofs.nth_zero.Given as goal
 
 abbrev pub invariant-loop-i : goal.invariant-loop-i
 invariant-loop-i l = Seek is_zero l.entries l.n l.left l.i
-
-abbrev pub decreases-loop-i : goal.decreases-loop-i
-decreases-loop-i l = length l.entries - l.i

@@ -7,25 +7,10 @@ pub loop-i-init : goal.loop-i-init
 loop-i-init c =
     putting_start _ _ _ _
 
-pub put_if-k-requires : goal.put_if-k-requires
-put_if-k-requires c =
-    let p = c.requires in
-    let here = c.loop-i-test.true in
-    record {
-      in_first = omega (arith, here, p.first_len);
-      in_status = here;
-      vars_fit = p.vars_fit;
-      room = omega (arith, c.loop-i.invariant.len, p.room);
-    }
-
 pub loop-i-preserved : goal.loop-i-preserved
 loop-i-preserved c =
     let w = c.loop-i.invariant in
     putting_step c.requires.first_len (omega (arith, w.len, c.requires)) w c.loop-i-test.true c.put_if-k.ensures
-
-pub shape_of-out : goal.shape_of-out
-shape_of-out c =
-    c.loop-i.invariant.len
 
 pub returns : goal.returns
 returns c =

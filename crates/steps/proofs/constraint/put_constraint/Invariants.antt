@@ -1,12 +1,7 @@
 -- `constraint::put_constraint` meets its contract. The invariant of its loop: what is put, and what is still to put, are the
--- constraint. The measure is what is left of the length. Assumes nothing.
-use Prim.Native.Nat.{◌-◌}
-use lib.ListN.{length}
+-- constraint. Assumes nothing.
 use Rattle.steps.proofs.ConstraintLaws.{Putting}
 use Rattle.steps.proofs.constraint.put_constraint.Given as goal
 
 abbrev pub invariant-loop-i : goal.invariant-loop-i
 invariant-loop-i l = Putting l.first l.status l.chunk l.initial.out l.k l.i l.out
-
-abbrev pub decreases-loop-i : goal.decreases-loop-i
-decreases-loop-i l = length l.status - l.i

@@ -1,12 +1,7 @@
 -- `records::put_records` meets its contract. The invariant of its loop: the first i elements of both buffers are new, the others as they
--- were. The measure is what is left of the length. Assumes nothing.
-use Prim.Native.Nat.{◌-◌}
-use lib.ListN.{length}
+-- were. Assumes nothing.
 use Rattle.steps.proofs.RecordLaws.{Recording}
 use Rattle.steps.proofs.records.put_records.Given as goal
 
 abbrev pub invariant-loop-i : goal.invariant-loop-i
 invariant-loop-i l = Recording l.call l.first l.model l.status l.initial.calls l.initial.ways l.i l.calls l.ways
-
-abbrev pub decreases-loop-i : goal.decreases-loop-i
-decreases-loop-i l = length l.status - l.i
