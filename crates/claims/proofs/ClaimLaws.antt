@@ -1,6 +1,6 @@
 -- The laws of src/claim.rt: a claim and its tree, the loop over the claims, and the end of the text.
 --
---   claim_some, claim_most    a claim's variable is one of the variables
+--   claim_some, claim_within    a claim's variable is one of the variables
 --   claim_values      its negation alone
 --   claim_stop, claim_tree    one claim
 --   ends_here, ends_bad, ends_behind     no claim is due
@@ -20,34 +20,35 @@ use Rattle.rules.specs.Run.{blank}
 use Rattle.texts.specs.Claims.{against}
 use Rattle.texts.specs.ClaimsReading.{claims_due, judge_parts}
 use Rattle.texts.specs.ClaimsRefusals.{no_claim}
-use Rattle.rules.proofs.ListLaws.{apart}
 use Rattle.rules.proofs.AnswerLaws.{no_literal_false}
 use Rattle.texts.proofs.ClaimsJudged.{judge_malformed, judge_finished}
+use Rattle.std.specs.Prelude.{Some, None, Ok, Err}
+use Rattle.reader.specs.declared.next.Spot.{Spot}
 use Rattle.reader.specs.declared.token.Entry.{Entry}
-use Rattle.reader.specs.declared.next.Found.{Found}
 use Rattle.reader.specs.Words.{value_of}
 use Rattle.reader.specs.Next.{tokens_at, bytes_at, Finds}
 use Rattle.formula.specs.Literals.{byte_of}
-use Rattle.claims.specs.declared.step.Step.{Step}
-use Rattle.claims.specs.declared.step.Number.{Number}
 use Rattle.claims.specs.declared.taken.Due.{Due}
-use Rattle.claims.specs.Steps.{judge_at, Leads, on, stop, SignFits, IsDue, Taken, stops, takes, TreeRead, Unset, ClaimChecked, EndChecked, ClaimsChecked}
+use Rattle.claims.specs.Steps.{judge_at, Step, Leads, on, stop, SignFits, IsDue, Taken, stops, takes, TreeRead, Unset, ClaimChecked, EndChecked, ClaimsChecked}
 use Rattle.claims.proofs.StepLaws.{fault_stop, value_minus, value_plain}
 use Rattle.claims.proofs.TakenLaws.{var_of_value, lead_then}
 
 -- ---- a claim
 
-module _ {text : List ℕ} {at from to : ℕ} (vars : ℕ) (e : Entry) (t : Taken text at (Due.Claim vars) (Number.Is from to e)) where
-  up_to : Taken text at (Due.Claim vars) (Number.Is from to e) → LitUpTo vars (value_of e)
-  up_to (takes g n f) = no_literal_false vars (value_of e) n
+module _ {text : List ℕ} {at : ℕ} (vars : ℕ) (s : Spot) (t : Taken text at (Due.Claim vars) (Ok s)) where
+  up_to : Taken text at (Due.Claim vars) (Ok s) → LitUpTo vars (value_of s.entry)
+  up_to (takes g n f) = no_literal_false vars (value_of s.entry) n
 
-  pub claim_some : 1 ≤ e.number
-  claim_some = omega (arith, (up_to t).some, var_of_value e)
+  pub claim_some : 1 ≤ s.entry.number
+  claim_some = omega (arith, (up_to t).some, var_of_value s.entry)
 
-  pub claim_most : e.number ≤ vars
-  claim_most = omega (arith, (up_to t).most, var_of_value e)
+  claim_most : s.entry.number ≤ vars
+  claim_most = omega (arith, (up_to t).most, var_of_value s.entry)
 
-sign_of : {text : List ℕ} {at from to : ℕ} {due : Due} {e : Entry} → Taken text at due (Number.Is from to e) → SignFits e
+  pub claim_within : s.entry.number - 1 < vars
+  claim_within = omega (arith, claim_some, claim_most)
+
+sign_of : {text : List ℕ} {at : ℕ} {due : Due} {s : Spot} → Taken text at due (Ok s) → SignFits s.entry
 sign_of (takes g n f) = f
 
 -- the index and the byte of a claim's negation
@@ -72,10 +73,11 @@ negation_byte e f h = go e.minus refl
       ap (λ (l : ℤ). true_byte (negated l)) (value_plain e m) ∙ (plain e.number h).1 ∙ ap byte_of (sym m),
     )
 
-pub claim_values : {text : List ℕ} {at from to : ℕ} (vs : Values) (e : Entry) → vs ≡ blank (length vs)
-    → Taken text at (Due.Claim (length vs)) (Number.Is from to e) → set vs (e.number - 1) (byte_of e.minus) ≡ against (length vs) (value_of e)
-claim_values vs e u t =
-    let (i, b) = negation_byte e (sign_of t) (claim_some (length vs) e t) in
+pub claim_values : {text : List ℕ} {at : ℕ} (vs : Values) (s : Spot) → vs ≡ blank (length vs)
+    → Taken text at (Due.Claim (length vs)) (Ok s) → set vs (s.entry.number - 1) (byte_of s.entry.minus) ≡ against (length vs) (value_of s.entry)
+claim_values vs s u t =
+    let e = s.entry in
+    let (i, b) = negation_byte e (sign_of t) (claim_some (length vs) s t) in
     ap (λ (xs : Values). set xs (e.number - 1) (byte_of e.minus)) u ∙
     ap (λ (j : ℕ). set (blank (length vs)) j (byte_of e.minus)) (sym i) ∙
     ap (λ (x : ℕ). set (blank (length vs)) (index_of (negated (value_of e))) x) (sym b)
@@ -93,52 +95,38 @@ due_claim : (vars : ℕ) (F : List Clause) (n k : ℕ) → IsDue vars F (claims_
 due_claim vars F n k = record { unfinished = no_claim; fault = λ l. refl }
 
 module _ (F : List Clause) {text : List ℕ} {at : ℕ} (vs : Values) where
-  pub claim_stop : {a : ClaimsAnswer} → Taken text at (Due.Claim (length vs)) (Number.Stop a) → ClaimChecked F text at vs (Step.Stop a) vs
+  pub claim_stop : {a : ClaimsAnswer} → Taken text at (Due.Claim (length vs)) (Err a) → ClaimChecked F text at vs (Err a) vs
   claim_stop (stops g) =
       record { leads = λ n k. stop (g (length vs) F (claims_due n (suc k) []) (due_claim (length vs) F n k)); same = refl }
 
-  pub claim_tree : {from to : ℕ} {e : Entry} {us after : Values} {r : Step} → Taken text at (Due.Claim (length vs)) (Number.Is from to e)
-      → us ≡ against (length vs) (value_of e) → TreeRead F text us to r → after ≡ vs → ClaimChecked F text at vs r after
-  claim_tree {to = to} {e = e} {us = us} {r = r} (takes g n f) u w s =
+  pub claim_tree : {s : Spot} {us after : Values} {r : Step} → Taken text at (Due.Claim (length vs)) (Ok s)
+      → us ≡ against (length vs) (value_of s.entry) → TreeRead F text us s.to r → after ≡ vs → ClaimChecked F text at vs r after
+  claim_tree {s} {us = us} {r = r} (takes g n f) u w same =
       record {
         leads = λ m k.
             lead_then (g (length vs) F (claims_due m (suc k) []) (due_claim (length vs) F m k))
-            (subst (λ (xs : Values). Leads (length vs) F text (claims_due m k (xs ∷ [])) to (claims_due m k []) r) u (w.leads (length vs) m k []));
-        same = s;
+            (subst (λ (xs : Values). Leads (length vs) F text (claims_due m k (xs ∷ [])) s.to (claims_due m k []) r) u (w.leads (length vs) m k []));
+        same = same;
       }
 
 -- ---- no claim is due
 
 module _ (text : List ℕ) (at n : ℕ) where
-  pub ends_here : {f : Found} → Finds text at f → f ≡ Found.TextEnd → EndChecked text at n (ClaimsAnswer.Accepted n)
-  ends_here (Finds.no_token e) q =
+  pub ends_here : Finds text at (Ok None) → EndChecked text at n (ClaimsAnswer.Accepted n)
+  ends_here (Finds.no_token e) =
       record { answer_is = λ vars F. ap (judge_parts vars F (length text) (claims_due n 0 [])) e ∙ judge_finished vars F (length text) n }
-  ends_here (Finds.malformed to x e) q = apart cc
-  ends_here (Finds.number x e m) q = apart cc
 
-  pub ends_bad : {f : Found} (from : ℕ) → Finds text at f → f ≡ Found.Malformed from → EndChecked text at n (ClaimsAnswer.BadToken from)
-  ends_bad from (Finds.no_token e) q = apart cc
-  ends_bad from (Finds.malformed {from = j} to x e) q =
+  pub ends_bad : (from : ℕ) → Finds text at (Err from) → EndChecked text at n (ClaimsAnswer.BadToken from)
+  ends_bad from (Finds.malformed to x e) =
       record {
         answer_is = λ vars F.
             ap (judge_parts vars F (length text) (claims_due n 0 [])) x.tokens ∙
-            judge_malformed vars F (length text) (claims_due n 0 []) (record { at = j; bytes = bytes_at text j to }) (tokens_at text to) e ∙
-            ap ClaimsAnswer.BadToken (place q);
+            judge_malformed vars F (length text) (claims_due n 0 []) (record { at = from; bytes = bytes_at text from to }) (tokens_at text to) e;
       }
-    where
-      place : {a b : ℕ} → Found.Malformed a ≡ Found.Malformed b → a ≡ b
-      place e = cc
-  ends_bad from (Finds.number x e m) q = apart cc
 
-  pub ends_behind : {f : Found} (from to : ℕ) (e : Entry) → Finds text at f → f ≡ Found.Is from to e
-      → EndChecked text at n (ClaimsAnswer.Rejected from)
-  ends_behind from to e (Finds.no_token h) q = apart cc
-  ends_behind from to e (Finds.malformed j x h) q = apart cc
-  ends_behind from to e (Finds.number {from = i} {e = d} x h m) q =
-      record { answer_is = λ vars F. fault_stop vars F (claims_due n 0 []) (value_of d) x h refl ∙ ap ClaimsAnswer.Rejected (place q) }
-    where
-      place : {a b : ℕ} {s t : ℕ} {u v : Entry} → Found.Is a s u ≡ Found.Is b t v → a ≡ b
-      place e = cc
+  pub ends_behind : (s : Spot) → Finds text at (Ok (Some s)) → EndChecked text at n (ClaimsAnswer.Rejected s.from)
+  ends_behind s (Finds.number x h m) =
+      record { answer_is = λ vars F. fault_stop vars F (claims_due n 0 []) (value_of s.entry) x h refl }
 
 -- ---- the loop over the claims
 
@@ -165,19 +153,19 @@ module _ {F : List Clause} {text : List ℕ} {at n : ℕ} {before vs : Values} {
   due h =
       let e : left ≡ suc (left - 1) = omega arith in c.leads ∙ ap (λ (k : ℕ). judge_at (length before) F text (claims_due n k []) next) e
 
-  pub checking_stop : {a : ClaimsAnswer} {after : Values} → 0 < left → ClaimChecked F text next vs (Step.Stop a) after
+  pub checking_stop : {a : ClaimsAnswer} {after : Values} → 0 < left → ClaimChecked F text next vs (Err a) after
       → ClaimsChecked (length before) F text at n a
   checking_stop {a} h w = go (one h w)
     where
-      go : Leads (length before) F text (claims_due n (suc (left - 1)) []) next (claims_due n (left - 1) []) (Step.Stop a)
+      go : Leads (length before) F text (claims_due n (suc (left - 1)) []) next (claims_due n (left - 1) []) (Err a)
           → ClaimsChecked (length before) F text at n a
       go (stop q) = record { answer_is = due h ∙ q }
 
-  pub checking_step : {to : ℕ} {after : Values} → 0 < left → ClaimChecked F text next vs (Step.On to) after
+  pub checking_step : {to : ℕ} {after : Values} → 0 < left → ClaimChecked F text next vs (Ok to) after
       → Checking F text at n before to (left - 1) after
   checking_step {to} {after} h w = record { same = w.same ∙ c.same; leads = go (one h w) }
     where
-      go : Leads (length before) F text (claims_due n (suc (left - 1)) []) next (claims_due n (left - 1) []) (Step.On to)
+      go : Leads (length before) F text (claims_due n (suc (left - 1)) []) next (claims_due n (left - 1) []) (Ok to)
           → judge_at (length before) F text (claims_due n n []) at ≡ judge_at (length before) F text (claims_due n (left - 1) []) to
       go (on q) = due h ∙ q
 

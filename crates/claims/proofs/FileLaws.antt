@@ -20,6 +20,8 @@ use lib.IntN.{ℤ}
 use lib.ListN.{length, take, replicate, length-replicate}
 use lib.Seq.{length-take-le}
 use borrow.Author.Tests.{lt-ltb, le-ltb}
+use Rattle.std.specs.Prelude.{Ok, Err}
+use Rattle.reader.specs.declared.next.Spot.{Spot}
 use Rattle.rules.specs.declared.Refusal.{Refusal}
 use Rattle.rules.specs.declared.ClaimsAnswer.{ClaimsAnswer}
 use Rattle.rules.specs.Lists.{first_of}
@@ -31,14 +33,11 @@ use Rattle.texts.specs.ClaimsRefusals.{no_literal}
 use Rattle.rules.proofs.ListLaws.{apart}
 use Rattle.rules.proofs.ClauseLaws.{length-clauses}
 use Rattle.texts.proofs.ClaimsJudged.{taken_of_none}
-use Rattle.reader.specs.declared.token.Entry.{Entry}
 use Rattle.std.specs.Prelude.{Ok, Err}
 use Rattle.refusals.specs.Refuse.{found}
 use Rattle.formula.specs.Starts.{starts_of, StartsFound}
 use Rattle.formula.specs.Formula.{Formula}
 use Rattle.formula.proofs.StartsLaws.{found_front}
-use Rattle.claims.specs.declared.step.Step.{Step}
-use Rattle.claims.specs.declared.step.Number.{Number}
 use Rattle.claims.specs.declared.taken.Due.{Due}
 use Rattle.claims.specs.Steps.{judge_at, Unset, IsDue, Taken, stops, takes, ModelRead, model_on, model_stop}
 use Rattle.claims.specs.Steps.{ClaimsChecked, CountChecked, FileChecked, ListTaken}
@@ -50,24 +49,24 @@ due_claims : (vars : ℕ) (F : List Clause) (from : ℕ) (vs : Values) → IsDue
 due_claims vars F from vs = record { unfinished = no_literal; fault = λ l. refl }
 
 module _ (vars : ℕ) (F : List Clause) {text : List ℕ} where
-  pub count_stop : {at : ℕ} {a : ClaimsAnswer} → Taken text at Due.Claims (Number.Stop a) → CountChecked vars F text at a
+  pub count_stop : {at : ℕ} {a : ClaimsAnswer} → Taken text at Due.Claims (Err a) → CountChecked vars F text at a
   count_stop (stops g) = record { answer_is = λ from vs. g vars F (literals_due from 0 vs) (due_claims vars F from vs) }
 
-  pub count_claims : {at from to : ℕ} {e : Entry} {a : ClaimsAnswer} → Taken text at Due.Claims (Number.Is from to e)
-      → ClaimsChecked vars F text to e.number a → CountChecked vars F text at a
-  count_claims {to = to} {e = e} (takes g n f) w =
+  pub count_claims : {at : ℕ} {s : Spot} {a : ClaimsAnswer} → Taken text at Due.Claims (Ok s)
+      → ClaimsChecked vars F text s.to s.entry.number a → CountChecked vars F text at a
+  count_claims {s = s} (takes g n f) w =
       record {
         answer_is = λ from vs.
             g vars F (literals_due from 0 vs) (due_claims vars F from vs) ∙
-            ap (λ (n : ℕ). judge_at vars F text (claims_due n n []) to) (var_of_value e) ∙ w.answer_is;
+            ap (λ (n : ℕ). judge_at vars F text (claims_due n n []) s.to) (var_of_value s.entry) ∙ w.answer_is;
       }
 
   -- ---- the whole file
 
-  pub file_stop : {a : ClaimsAnswer} → ModelRead vars F text (Step.Stop a) → FileChecked vars F text a
+  pub file_stop : {a : ClaimsAnswer} → ModelRead vars F text (Err a) → FileChecked vars F text a
   file_stop (model_stop e) = record { answer_is = e }
 
-  pub file_claims : {to : ℕ} {a : ClaimsAnswer} → ModelRead vars F text (Step.On to) → CountChecked vars F text to a → FileChecked vars F text a
+  pub file_claims : {to : ℕ} {a : ClaimsAnswer} → ModelRead vars F text (Ok to) → CountChecked vars F text to a → FileChecked vars F text a
   file_claims (model_on from vs e) w = record { answer_is = e ∙ w.answer_is from vs }
 
 -- ---- the values

@@ -8,7 +8,8 @@
 use mathlib.Core.Path.{◌≡◌, refl, sym, ◌∙◌, ap, ap₂}
 use mathlib.Core.Bool.{Bool, true, false, not, ◌&&◌}
 use mathlib.Core.List.{List, [], ◌∷◌, ◌++◌}
-use mathlib.Core.Option.{Option, none, some}
+use mathlib.Core.Option.{none, some}
+use mathlib.Core.Option.{Option as Maybe}
 use Prim.Native.Nat.{ℕ, zero, suc, ◌+◌, ◌-◌, ◌≤◌, ◌<◌}
 use native.Mathlib.Omega.{arith}
 use native.Mathlib.Numerals.{add-one}
@@ -24,11 +25,10 @@ use Rattle.texts.specs.ClaimsRefusals.{no_count, no_literal}
 use Rattle.rules.proofs.ListLaws.{apart}
 use Rattle.reader.specs.declared.token.Entry.{Entry}
 use Rattle.reader.specs.Words.{value_of}
-use Rattle.formula.specs.declared.first_false.FirstFalse.{FirstFalse}
+use Rattle.std.specs.Prelude.{Some, None, Ok, Err}
+use Rattle.reader.specs.declared.next.Spot.{Spot}
 use Rattle.formula.specs.Literals.{byte_of}
 use Rattle.formula.specs.Formula.{first_false_of}
-use Rattle.claims.specs.declared.step.Step.{Step}
-use Rattle.claims.specs.declared.step.Number.{Number}
 use Rattle.claims.specs.declared.taken.Due.{Due}
 use Rattle.claims.specs.Steps.{judge_at, judge_from, Leads, on, stop, SignFits, IsDue, Taken, stops, takes, LiteralsRead, ModelRead, model_on, model_stop}
 use Rattle.claims.proofs.StepLaws.{value_minus, value_plain}
@@ -75,31 +75,31 @@ module _ {text : List ℕ} {at vars i next : ℕ} {vs : Values} (r : Reading tex
   is-due h F from =
       due_literal vars F from (vars - (i + 1)) (i + 1) (take i vs) (omega (arith, length-take-le i vs (omega (arith, r.length_is, r.within))))
 
-  pub reading_step : {from to : ℕ} {e : Entry} → i < vars → Taken text next (Due.Literal (i + 1)) (Number.Is from to e)
-      → Reading text at vars (i + 1) to (set vs i (byte_of (not e.minus)))
-  reading_step {to = to} {e = e} h (takes g n f) =
+  pub reading_step : {s : Spot} → i < vars → Taken text next (Due.Literal (i + 1)) (Ok s)
+      → Reading text at vars (i + 1) s.to (set vs i (byte_of (not s.entry.minus)))
+  reading_step {s} h (takes g n f) =
       record {
         within = omega arith;
-        length_is = length-set vs i (byte_of (not e.minus)) ∙ r.length_is;
+        length_is = length-set vs i (byte_of (not s.entry.minus)) ∙ r.length_is;
         leads = λ F from.
             due_next h F from ∙ g vars F (literals_due from (suc (vars - (i + 1))) (take i vs)) (is-due h F from) ∙
-            ap (λ (ws : Values). judge_from vars F text (literals_due from (vars - (i + 1)) ws) to) values_are;
+            ap (λ (ws : Values). judge_from vars F text (literals_due from (vars - (i + 1)) ws) s.to) values_are;
       }
     where
-      values_are : take i vs ++ (true_byte (value_of e) ∷ []) ≡ take (i + 1) (set vs i (byte_of (not e.minus)))
+      values_are : take i vs ++ (true_byte (value_of s.entry) ∷ []) ≡ take (i + 1) (set vs i (byte_of (not s.entry.minus)))
       values_are =
-          ap (λ (b : ℕ). take i vs ++ (b ∷ [])) (value_byte e f) ∙
-          sym (take-suc-set vs i (byte_of (not e.minus)) (omega (arith, r.length_is))) ∙
-          ap (λ (n : ℕ). take n (set vs i (byte_of (not e.minus)))) (sym (add-one i))
+          ap (λ (b : ℕ). take i vs ++ (b ∷ [])) (value_byte s.entry f) ∙
+          sym (take-suc-set vs i (byte_of (not s.entry.minus)) (omega (arith, r.length_is))) ∙
+          ap (λ (n : ℕ). take n (set vs i (byte_of (not s.entry.minus)))) (sym (add-one i))
 
-  pub reading_stop : {a : ClaimsAnswer} → i < vars → Taken text next (Due.Literal (i + 1)) (Number.Stop a) → LiteralsRead text at vars (Step.Stop a) vs
+  pub reading_stop : {a : ClaimsAnswer} → i < vars → Taken text next (Due.Literal (i + 1)) (Err a) → LiteralsRead text at vars (Err a) vs
   reading_stop h (stops g) =
       record {
         length_is = r.length_is;
         leads = λ F from. stop (due_next h F from ∙ g vars F (literals_due from (suc (vars - (i + 1))) (take i vs)) (is-due h F from));
       }
 
-  pub reading_done : vars ≤ i → LiteralsRead text at vars (Step.On next) vs
+  pub reading_done : vars ≤ i → LiteralsRead text at vars (Ok next) vs
   reading_done h =
       let none_left : vars - i ≡ 0 = omega arith in
       let all : take i vs ≡ vs = whole i vs (omega (arith, r.length_is)) in
@@ -135,17 +135,17 @@ some_from n k vs (cl ∷ F) e = go (has_true vs cl) (some_from (suc n) k vs F) e
     go false ih q = refl
 
 module _ (vs : Values) (F : List Clause) where
-  pub none_false : first_false_of (first_false vs F) ≡ FirstFalse.Nothing → satisfies vs F ≡ true
+  pub none_false : first_false_of (first_false vs F) ≡ None → satisfies vs F ≡ true
   none_false e = go (first_false vs F) refl e
     where
-      go : (o : Option ℕ) → first_false vs F ≡ o → first_false_of o ≡ FirstFalse.Nothing → satisfies vs F ≡ true
+      go : (o : Maybe ℕ) → first_false vs F ≡ o → first_false_of o ≡ None → satisfies vs F ≡ true
       go none q e = none_from 1 vs F q
       go (some n) q e = apart cc
 
-  pub some_false : {n : ClauseNo} → first_false_of (first_false vs F) ≡ FirstFalse.Clause n → satisfies vs F ≡ false
+  pub some_false : {n : ClauseNo} → first_false_of (first_false vs F) ≡ Some n → satisfies vs F ≡ false
   some_false e = go (first_false vs F) refl e
     where
-      go : {n : ClauseNo} (o : Option ℕ) → first_false vs F ≡ o → first_false_of o ≡ FirstFalse.Clause n → satisfies vs F ≡ false
+      go : {n : ClauseNo} (o : Maybe ℕ) → first_false vs F ≡ o → first_false_of o ≡ Some n → satisfies vs F ≡ false
       go none q e = apart cc
       go (some k) q e = some_from 1 k vs F q
 
@@ -155,32 +155,32 @@ due_count : (vars : ℕ) (F : List Clause) → IsDue vars F model_due (Due.Count
 due_count vars F = record { unfinished = no_count; fault = λ l. refl }
 
 module _ {vars : ℕ} (F : List Clause) {text : List ℕ} where
-  pub model_none : {a : ClaimsAnswer} → Taken text 0 (Due.Count vars) (Number.Stop a) → ModelRead vars F text (Step.Stop a)
+  pub model_none : {a : ClaimsAnswer} → Taken text 0 (Due.Count vars) (Err a) → ModelRead vars F text (Err a)
   model_none (stops g) = model_stop (g vars F model_due (due_count vars F))
 
-  module _ {from to : ℕ} {e : Entry} where
-    begun : Taken text 0 (Due.Count vars) (Number.Is from to e) → judge_at vars F text model_due 0 ≡ judge_from vars F text (literals_due from vars []) to
+  module _ {s : Spot} where
+    begun : Taken text 0 (Due.Count vars) (Ok s) → judge_at vars F text model_due 0 ≡ judge_from vars F text (literals_due s.from vars []) s.to
     begun (takes g n f) = g vars F model_due (due_count vars F)
 
-    pub model_cut : {a : ClaimsAnswer} {vs : Values} → Taken text 0 (Due.Count vars) (Number.Is from to e) → LiteralsRead text to vars (Step.Stop a) vs
-        → ModelRead vars F text (Step.Stop a)
-    model_cut {a} {vs} t w = go (w.leads F from)
+    pub model_cut : {a : ClaimsAnswer} {vs : Values} → Taken text 0 (Due.Count vars) (Ok s) → LiteralsRead text s.to vars (Err a) vs
+        → ModelRead vars F text (Err a)
+    model_cut {a} {vs} t w = go (w.leads F s.from)
       where
-        go : Leads vars F text (literals_due from vars []) to (literals_due from 0 vs) (Step.Stop a) → ModelRead vars F text (Step.Stop a)
+        go : Leads vars F text (literals_due s.from vars []) s.to (literals_due s.from 0 vs) (Err a) → ModelRead vars F text (Err a)
         go (stop q) = model_stop (begun t ∙ q)
 
-    read : {later : ℕ} {vs : Values} → Taken text 0 (Due.Count vars) (Number.Is from to e) → LiteralsRead text to vars (Step.On later) vs
-        → judge_at vars F text model_due 0 ≡ judge_from vars F text (literals_due from 0 vs) later
-    read {later} {vs} t w = go (w.leads F from)
+    read : {later : ℕ} {vs : Values} → Taken text 0 (Due.Count vars) (Ok s) → LiteralsRead text s.to vars (Ok later) vs
+        → judge_at vars F text model_due 0 ≡ judge_from vars F text (literals_due s.from 0 vs) later
+    read {later} {vs} t w = go (w.leads F s.from)
       where
-        go : Leads vars F text (literals_due from vars []) to (literals_due from 0 vs) (Step.On later)
-            → judge_at vars F text model_due 0 ≡ judge_from vars F text (literals_due from 0 vs) later
+        go : Leads vars F text (literals_due s.from vars []) s.to (literals_due s.from 0 vs) (Ok later)
+            → judge_at vars F text model_due 0 ≡ judge_from vars F text (literals_due s.from 0 vs) later
         go (on q) = begun t ∙ q
 
-    pub model_ends : {later : ℕ} {vs : Values} → Taken text 0 (Due.Count vars) (Number.Is from to e) → LiteralsRead text to vars (Step.On later) vs
-        → satisfies vs F ≡ true → ModelRead vars F text (Step.On later)
-    model_ends {later = later} {vs = vs} t w s = model_on {to = later} from vs (read t w ∙ rw s)
+    pub model_ends : {later : ℕ} {vs : Values} → Taken text 0 (Due.Count vars) (Ok s) → LiteralsRead text s.to vars (Ok later) vs
+        → satisfies vs F ≡ true → ModelRead vars F text (Ok later)
+    model_ends {later = later} {vs = vs} t w h = model_on {to = later} s.from vs (read t w ∙ rw h)
 
-    pub model_fails : {later : ℕ} {vs : Values} → Taken text 0 (Due.Count vars) (Number.Is from to e) → LiteralsRead text to vars (Step.On later) vs
-        → satisfies vs F ≡ false → ModelRead vars F text (Step.Stop (ClaimsAnswer.Rejected from))
-    model_fails t w s = model_stop {a = ClaimsAnswer.Rejected from} (read t w ∙ rw s)
+    pub model_fails : {later : ℕ} {vs : Values} → Taken text 0 (Due.Count vars) (Ok s) → LiteralsRead text s.to vars (Ok later) vs
+        → satisfies vs F ≡ false → ModelRead vars F text (Err (ClaimsAnswer.Rejected s.from))
+    model_fails t w h = model_stop {a = ClaimsAnswer.Rejected s.from} (read t w ∙ rw h)

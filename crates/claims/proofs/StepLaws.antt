@@ -6,7 +6,7 @@
 --   value_minus, value_plain     a number with a minus, and without
 --
 -- Assumes nothing.
-use mathlib.Core.Path.{◌≡◌, ◌∙◌, ap, subst}
+use mathlib.Core.Path.{◌≡◌, ◌∙◌, ap}
 use mathlib.Core.Bool.{Bool, true, false}
 use mathlib.Core.List.{List}
 use mathlib.Core.Option.{some}
@@ -18,43 +18,29 @@ use Rattle.rules.specs.declared.ClaimsAnswer.{ClaimsAnswer}
 use Rattle.rules.specs.Meaning.{Clause}
 use Rattle.texts.specs.Text.{entry_of}
 use Rattle.texts.specs.ClaimsReading.{Part, next, is_at_fault, judge_parts}
-use Rattle.rules.proofs.ListLaws.{apart}
 use Rattle.texts.proofs.ClaimsJudged.{judge_malformed, judge_unfinished}
+use Rattle.std.specs.Prelude.{Some, None, Ok, Err}
+use Rattle.reader.specs.declared.next.Spot.{Spot}
 use Rattle.reader.specs.declared.token.Entry.{Entry}
-use Rattle.reader.specs.declared.next.Found.{Found}
 use Rattle.reader.specs.Words.{signed_value, value_of}
 use Rattle.reader.specs.Next.{tokens_at, bytes_at, Next, Finds}
-use Rattle.claims.specs.declared.step.Number.{Number}
 use Rattle.claims.specs.Steps.{judge_at, judge_from, NumberDue, no_number, number}
 
 -- ---- what stands next
 
 module _ (text : List ℕ) (at : ℕ) where
-  pub due_end : {f : Found} → Finds text at f → f ≡ Found.TextEnd → NumberDue text at (Number.Stop (ClaimsAnswer.Rejected (length text)))
-  due_end (Finds.no_token e) q =
+  pub due_end : Finds text at (Ok None) → NumberDue text at (Err (ClaimsAnswer.Rejected (length text)))
+  due_end (Finds.no_token e) =
       no_number (λ vars F p u. ap (judge_parts vars F (length text) p) e ∙ judge_unfinished vars F (length text) u)
-  due_end (Finds.malformed to n e) q = apart cc
-  due_end (Finds.number n e m) q = apart cc
 
-  pub due_malformed : {f : Found} (from : ℕ) → Finds text at f → f ≡ Found.Malformed from → NumberDue text at (Number.Stop (ClaimsAnswer.BadToken from))
-  due_malformed from (Finds.no_token e) q = apart cc
-  due_malformed from (Finds.malformed {from = j} to n e) q =
+  pub due_malformed : (from : ℕ) → Finds text at (Err from) → NumberDue text at (Err (ClaimsAnswer.BadToken from))
+  due_malformed from (Finds.malformed to n e) =
       no_number (λ vars F p u.
       ap (judge_parts vars F (length text) p) n.tokens ∙
-      judge_malformed vars F (length text) p (record { at = j; bytes = bytes_at text j to }) (tokens_at text to) e ∙ ap ClaimsAnswer.BadToken (place q))
-    where
-      place : {a b : ℕ} → Found.Malformed a ≡ Found.Malformed b → a ≡ b
-      place e = cc
-  due_malformed from (Finds.number n e m) q = apart cc
+      judge_malformed vars F (length text) p (record { at = from; bytes = bytes_at text from to }) (tokens_at text to) e)
 
-  pub due_number : {f : Found} (from to : ℕ) (e : Entry) → Finds text at f → f ≡ Found.Is from to e → NumberDue text at (Number.Is from to e)
-  due_number from to e (Finds.no_token h) q = apart cc
-  due_number from to e (Finds.malformed j n h) q = apart cc
-  due_number from to e (Finds.number {from = i} {to = j} {e = d} n h m) q =
-      subst (NumberDue text at) same (number n h (record { some = m }))
-    where
-      same : Number.Is i j d ≡ Number.Is from to e
-      same = cc
+  pub due_number : (s : Spot) → Finds text at (Ok (Some s)) → NumberDue text at (Ok s)
+  due_number s (Finds.number n h m) = number n h (record { some = m })
 
 -- ---- a number where a part is due
 

@@ -19,12 +19,12 @@ use Rattle.rules.specs.declared.ClaimsAnswer.{ClaimsAnswer}
 use Rattle.rules.specs.Lists.{eqz}
 use Rattle.rules.specs.Meaning.{Clause, var_of}
 use Rattle.texts.specs.ClaimsReading.{Part, is_negative}
+use Rattle.std.specs.Prelude.{Ok, Err}
+use Rattle.reader.specs.declared.next.Spot.{Spot}
 use Rattle.reader.specs.declared.token.Entry.{Entry}
 use Rattle.reader.specs.Words.{signed_value, value_of}
-use Rattle.claims.specs.declared.step.Step.{Step}
-use Rattle.claims.specs.declared.step.Number.{Number}
 use Rattle.claims.specs.declared.taken.Due.{Due}
-use Rattle.claims.specs.Steps.{judge_from, Leads, on, stop, SignFits, NumberDue, no_number, number, is_faulty, Taken, stops, takes}
+use Rattle.claims.specs.Steps.{Step, judge_from, Leads, on, stop, SignFits, NumberDue, no_number, number, is_faulty, Taken, stops, takes}
 use Rattle.claims.proofs.StepLaws.{fits_on, fault_stop, value_minus, value_plain}
 
 -- ---- a number
@@ -68,17 +68,17 @@ module _ {due : Due} (e : Entry) (f : SignFits e) where
 -- ---- the answer, or the number
 
 module _ {text : List ℕ} {at : ℕ} (due : Due) where
-  pub taken_stop : {a : ClaimsAnswer} → NumberDue text at (Number.Stop a) → Taken text at due (Number.Stop a)
+  pub taken_stop : {a : ClaimsAnswer} → NumberDue text at (Err a) → Taken text at due (Err a)
   taken_stop (no_number h) = stops (λ vars F p d. h vars F p d.unfinished)
 
-  module _ (from to : ℕ) (e : Entry) where
-    pub taken_fault : NumberDue text at (Number.Is from to e) → is_faulty due (value_of e) ≡ true → Taken text at due (Number.Stop (ClaimsAnswer.Rejected from))
-    taken_fault (number n w m) h = stops (λ vars F p d. fault_stop vars F p (value_of e) n w (d.fault (value_of e) ∙ h))
+  module _ (s : Spot) where
+    pub taken_fault : NumberDue text at (Ok s) → is_faulty due (value_of s.entry) ≡ true → Taken text at due (Err (ClaimsAnswer.Rejected s.from))
+    taken_fault (number n w m) h = stops (λ vars F p d. fault_stop vars F p (value_of s.entry) n w (d.fault (value_of s.entry) ∙ h))
 
-    pub taken_number : NumberDue text at (Number.Is from to e) → is_faulty due (value_of e) ≡ false → Taken text at due (Number.Is from to e)
-    taken_number (number n w m) h = takes (λ vars F p d. fits_on vars F p (value_of e) n w (d.fault (value_of e) ∙ h)) h m
+    pub taken_number : NumberDue text at (Ok s) → is_faulty due (value_of s.entry) ≡ false → Taken text at due (Ok s)
+    taken_number (number n w m) h = takes (λ vars F p d. fits_on vars F p (value_of s.entry) n w (d.fault (value_of s.entry) ∙ h)) h m
 
-pub number_sign : {text : List ℕ} {at from to : ℕ} {e : Entry} → NumberDue text at (Number.Is from to e) → SignFits e
+pub number_sign : {text : List ℕ} {at : ℕ} {s : Spot} → NumberDue text at (Ok s) → SignFits s.entry
 number_sign (number n w m) = m
 
 -- ---- one behind the other

@@ -2,7 +2,7 @@
 -- its first number and its subtrees.
 --
 --   is_false_byte      whether a literal is false, by the byte at its index
---   false_step, false_stop, false_done     the loop over a clause
+--   all_is            what `all` of the code is
 --   up_to_number      the literals of a clause are of the variables
 --   end_zero, end_above, end_named     whether a number names a clause whose literals are all false
 --   unset_above, unset_here     whether the variable at an index is not set
@@ -19,11 +19,10 @@ use mathlib.Core.List.{List, [], ◌∷◌}
 use mathlib.Core.Option.{some}
 use Prim.Native.Nat.{ℕ, zero, suc, ◌+◌, ◌-◌, ◌≤◌, ◌<◌}
 use native.Mathlib.Omega.{arith}
-use native.Mathlib.Numerals.{add-one}
 use lib.Dec.{eqb, leb}
 use lib.IntN.{ℤ, pos, negsuc}
-use lib.ListN.{length, get_or, set, drop, drop_of_length-le, length-set}
-use lib.Seq.{drop-cons, set-set}
+use lib.ListN.{length, get_or, set, length-set}
+use lib.Seq.{set-set}
 use borrow.Author.Tests.{eqb-true, le-leb, lt-leb}
 use Rattle.rules.specs.Lists.{In, all}
 use Rattle.rules.specs.Meaning.{Clause, Values, clauses, var_of, index_of, value_at, false_byte}
@@ -40,11 +39,11 @@ use Rattle.formula.specs.Literals.{is_positive, byte_of}
 use Rattle.formula.specs.Starts.{clause_at}
 use Rattle.formula.proofs.ClauseLaws.{nil_up_to, clause_at_up_to}
 use Rattle.formula.proofs.LiteralLaws.{index_of_var}
-use Rattle.reader.specs.declared.token.Entry.{Entry}
-use Rattle.claims.specs.declared.step.Step.{Step}
-use Rattle.claims.specs.declared.step.Number.{Number}
+use Rattle.std.specs.List.{list_all}
+use Rattle.std.specs.Prelude.{Ok, Err}
+use Rattle.reader.specs.declared.next.Spot.{Spot}
 use Rattle.claims.specs.declared.tree.Node.{Node}
-use Rattle.claims.specs.Steps.{Leads, on, stop, TreeRead, NumberDue, no_number, number, is_unset_at, NodeDue, node_end, node_split, node_stop}
+use Rattle.claims.specs.Steps.{Step, Leads, on, stop, TreeRead, NumberDue, no_number, number, is_unset_at, NodeDue, node_end, node_split, node_stop}
 use Rattle.claims.proofs.StepLaws.{fits_on, fault_stop, value_minus, value_plain}
 
 -- ---- a literal
@@ -59,20 +58,11 @@ is_false_byte vs l i e h =
     ap (λ (b : ℕ). eqb b (byte_of (not (is_positive l)))) (get_d_default vs i 0 1 h ∙ ap (value_at vs) at) ∙
     ap (eqb (value_at vs (index_of l))) (sym (false_byte_sign l))
 
--- ---- the loop over a clause: what is left decides
+-- ---- a clause: what `all` of the code is
 
-module _ (p : ℤ → Bool) (cl : Clause) (i : ℕ) (inv : all p (drop i cl) ≡ all p cl) where
-  left : i < length cl → all p cl ≡ (p (get_or cl i (pos 0)) && all p (drop (suc i) cl))
-  left h = sym inv ∙ ap (all p) (drop-cons cl i (pos 0) h)
-
-  pub false_step : i < length cl → p (get_or cl i (pos 0)) ≡ true → all p (drop (i + 1) cl) ≡ all p cl
-  false_step h e = rw (add-one) (sym (left h ∙ ap (λ (b : Bool). b && all p (drop (suc i) cl)) e))
-
-  pub false_stop : i < length cl → p (get_or cl i (pos 0)) ≡ false → all p cl ≡ false
-  false_stop h e = left h ∙ ap (λ (b : Bool). b && all p (drop (suc i) cl)) e
-
-  pub false_done : length cl ≤ i → all p cl ≡ true
-  false_done h = sym inv ∙ ap (all p) (drop_of_length-le cl h)
+pub all_is : (p : ℤ → Bool) (cl : Clause) → all p cl ≡ list_all p cl
+all_is p [] = refl
+all_is p (l ∷ cl) = ap (λ b. p l && b) (all_is p cl)
 
 -- ---- an end
 
@@ -108,65 +98,65 @@ unset_here vs i h = ap (λ (b : ℕ). eqb b 0) (get_d_default vs i 0 1 h)
 -- ---- the first number of a tree
 
 module _ (F : List Clause) {text : List ℕ} (vs : Values) (at : ℕ) where
-  pub stop_node : {a : ClaimsAnswer} → NumberDue text at (Number.Stop a) → NodeDue F text vs at (Node.Stop a)
+  pub stop_node : {a : ClaimsAnswer} → NumberDue text at (Err a) → NodeDue F text vs at (Err a)
   stop_node (no_number h) = node_stop (λ vars n k due. h vars F (claims_due n k (vs ∷ due)) no_tree)
 
-  module _ (from to : ℕ) (e : Entry) where
-    pub number_some : NumberDue text at (Number.Is from to e) → e.minus ≡ true → 1 ≤ e.number
+  module _ (s : Spot) where
+    pub number_some : NumberDue text at (Ok s) → s.entry.minus ≡ true → 1 ≤ s.entry.number
     number_some (number n w m) = m.some
 
-    pub split_node : NumberDue text at (Number.Is from to e) → e.minus ≡ true → is_unset_at vs (e.number - 1) ≡ true
-        → NodeDue F text vs at (Node.Split (e.number - 1) to)
-    split_node (number n w m) s h =
-        node_split (eqb-true (value_at vs (e.number - 1)) 0 h)
-        (λ vars c k due. fits_on vars F (claims_due c k (vs ∷ due)) (negsuc (e.number - 1)) n (w ∙ ap some (value_minus e s (m.some s))) (rw h))
+    pub split_node : NumberDue text at (Ok s) → s.entry.minus ≡ true → is_unset_at vs (s.entry.number - 1) ≡ true
+        → NodeDue F text vs at (Ok (Node.Split (s.entry.number - 1) s.to))
+    split_node (number n w m) q h =
+        node_split (eqb-true (value_at vs (s.entry.number - 1)) 0 h)
+        (λ vars c k due. fits_on vars F (claims_due c k (vs ∷ due)) (negsuc (s.entry.number - 1)) n (w ∙ ap some (value_minus s.entry q (m.some q))) (rw h))
 
-    pub split_fault : NumberDue text at (Number.Is from to e) → e.minus ≡ true → is_unset_at vs (e.number - 1) ≡ false
-        → NodeDue F text vs at (Node.Stop (ClaimsAnswer.Rejected from))
-    split_fault (number n w m) s h =
+    pub split_fault : NumberDue text at (Ok s) → s.entry.minus ≡ true → is_unset_at vs (s.entry.number - 1) ≡ false
+        → NodeDue F text vs at (Err (ClaimsAnswer.Rejected s.from))
+    split_fault (number n w m) q h =
         node_stop
-        (λ vars c k due. fault_stop vars F (claims_due c k (vs ∷ due)) (negsuc (e.number - 1)) n (w ∙ ap some (value_minus e s (m.some s))) (rw h))
+        (λ vars c k due. fault_stop vars F (claims_due c k (vs ∷ due)) (negsuc (s.entry.number - 1)) n (w ∙ ap some (value_minus s.entry q (m.some q))) (rw h))
 
-    pub end_node : NumberDue text at (Number.Is from to e) → e.minus ≡ false → is_node F vs (pos e.number) ≡ true → NodeDue F text vs at (Node.End to)
-    end_node (number n w m) s h =
-        node_end (λ vars c k due. fits_on vars F (claims_due c k (vs ∷ due)) (pos e.number) n (w ∙ ap some (value_plain e s)) (rw h))
+    pub end_node : NumberDue text at (Ok s) → s.entry.minus ≡ false → is_node F vs (pos s.entry.number) ≡ true → NodeDue F text vs at (Ok (Node.End s.to))
+    end_node (number n w m) q h =
+        node_end (λ vars c k due. fits_on vars F (claims_due c k (vs ∷ due)) (pos s.entry.number) n (w ∙ ap some (value_plain s.entry q)) (rw h))
 
-    pub end_fault : NumberDue text at (Number.Is from to e) → e.minus ≡ false → is_node F vs (pos e.number) ≡ false
-        → NodeDue F text vs at (Node.Stop (ClaimsAnswer.Rejected from))
-    end_fault (number n w m) s h =
-        node_stop (λ vars c k due. fault_stop vars F (claims_due c k (vs ∷ due)) (pos e.number) n (w ∙ ap some (value_plain e s)) (rw h))
+    pub end_fault : NumberDue text at (Ok s) → s.entry.minus ≡ false → is_node F vs (pos s.entry.number) ≡ false
+        → NodeDue F text vs at (Err (ClaimsAnswer.Rejected s.from))
+    end_fault (number n w m) q h =
+        node_stop (λ vars c k due. fault_stop vars F (claims_due c k (vs ∷ due)) (pos s.entry.number) n (w ∙ ap some (value_plain s.entry q)) (rw h))
 
 -- ---- a tree, by its first number and its subtrees
 
 module _ {F : List Clause} {text : List ℕ} {vs : Values} {at : ℕ} where
-  pub split_unset : {i to : ℕ} → NodeDue F text vs at (Node.Split i to) → value_at vs i ≡ 0
+  pub split_unset : {i to : ℕ} → NodeDue F text vs at (Ok (Node.Split i to)) → value_at vs i ≡ 0
   split_unset (node_split z h) = z
 
-  pub tree_stop : {a : ClaimsAnswer} → NodeDue F text vs at (Node.Stop a) → TreeRead F text vs at (Step.Stop a)
+  pub tree_stop : {a : ClaimsAnswer} → NodeDue F text vs at (Err a) → TreeRead F text vs at (Err a)
   tree_stop (node_stop h) = record { leads = λ vars n k due. stop (h vars n k due) }
 
-  pub tree_end : {to : ℕ} → NodeDue F text vs at (Node.End to) → TreeRead F text vs at (Step.On to)
+  pub tree_end : {to : ℕ} → NodeDue F text vs at (Ok (Node.End to)) → TreeRead F text vs at (Ok to)
   tree_end (node_end h) = record { leads = λ vars n k due. on (h vars n k due) }
 
   -- the tree for false has the answer
-  pub tree_first : {i to : ℕ} {a : ClaimsAnswer} → NodeDue F text vs at (Node.Split i to) → TreeRead F text (set vs i 1) to (Step.Stop a)
-      → TreeRead F text vs at (Step.Stop a)
+  pub tree_first : {i to : ℕ} {a : ClaimsAnswer} → NodeDue F text vs at (Ok (Node.Split i to)) → TreeRead F text (set vs i 1) to (Err a)
+      → TreeRead F text vs at (Err a)
   tree_first {i} {to} {a} (node_split z h) w =
       record { leads = λ vars n k due. go vars n k due (w.leads vars n k (set vs i 2 ∷ due)) }
     where
       go : (vars n k : ℕ) (due : List Values)
-          → Leads vars F text (claims_due n k (set vs i 1 ∷ set vs i 2 ∷ due)) to (claims_due n k (set vs i 2 ∷ due)) (Step.Stop a)
-          → Leads vars F text (claims_due n k (vs ∷ due)) at (claims_due n k due) (Step.Stop a)
+          → Leads vars F text (claims_due n k (set vs i 1 ∷ set vs i 2 ∷ due)) to (claims_due n k (set vs i 2 ∷ due)) (Err a)
+          → Leads vars F text (claims_due n k (vs ∷ due)) at (claims_due n k due) (Err a)
       go vars n k due (stop e) = stop (h vars n k due ∙ e)
 
   -- it ends, and then the tree for true leads on
-  pub tree_both : {i to later : ℕ} {r : Step} → NodeDue F text vs at (Node.Split i to) → TreeRead F text (set vs i 1) to (Step.On later)
+  pub tree_both : {i to later : ℕ} {r : Step} → NodeDue F text vs at (Ok (Node.Split i to)) → TreeRead F text (set vs i 1) to (Ok later)
       → TreeRead F text (set vs i 2) later r → TreeRead F text vs at r
   tree_both {i} {to} {later} {r} (node_split z h) w y =
       record { leads = λ vars n k due. go vars n k due (w.leads vars n k (set vs i 2 ∷ due)) (y.leads vars n k due) }
     where
       go : {s : Step} (vars n k : ℕ) (due : List Values)
-          → Leads vars F text (claims_due n k (set vs i 1 ∷ set vs i 2 ∷ due)) to (claims_due n k (set vs i 2 ∷ due)) (Step.On later)
+          → Leads vars F text (claims_due n k (set vs i 1 ∷ set vs i 2 ∷ due)) to (claims_due n k (set vs i 2 ∷ due)) (Ok later)
           → Leads vars F text (claims_due n k (set vs i 2 ∷ due)) later (claims_due n k due) s
           → Leads vars F text (claims_due n k (vs ∷ due)) at (claims_due n k due) s
       go vars n k due (on e) (on f) = on (h vars n k due ∙ e ∙ f)

@@ -1,6 +1,6 @@
 -- What the steps of src/ promise: each leads the judgement of `rules` (specs/ClaimsReading) from one part of the file to another, or has the
 -- answer. Assumes nothing.
-use Rattle.std.specs.Prelude.{◌≡◌, Bool, true, false, not, List, [], ◌∷◌, ℕ, suc, ◌≤◌, eqb, ℤ, pos, length, set}
+use Rattle.std.specs.Prelude.{◌≡◌, Bool, true, false, not, List, [], ◌∷◌, ℕ, suc, ◌≤◌, eqb, ℤ, pos, length, set, Result, Ok, Err}
 use Rattle.std.proofs.Math.Option.{some}
 use Rattle.rules.specs.declared.ClaimsAnswer.{ClaimsAnswer}
 use Rattle.rules.specs.Lists.{eqz, first_of}
@@ -11,13 +11,12 @@ use Rattle.rules.specs.Run.{blank}
 use Rattle.rules.specs.Held.{is_no_literal}
 use Rattle.texts.specs.ClaimsReading.{Part, model_due, literals_due, claims_due, next, is_negative, is_at_fault, model_rules, unless, judge_parts}
 use Rattle.texts.specs.ClaimsRefusals.{Unfinished}
+use Rattle.reader.specs.declared.next.Spot.{Spot}
 use Rattle.reader.specs.declared.token.Entry.{Entry}
 use Rattle.reader.specs.Words.{value_of}
 use Rattle.reader.specs.Next.{tokens_at, bytes_at, Next}
 use Rattle.formula.specs.Starts.{starts_of}
 use Rattle.formula.specs.Formula.{Formula}
-use Rattle.claims.specs.declared.step.Step.{Step}
-use Rattle.claims.specs.declared.step.Number.{Number}
 use Rattle.claims.specs.declared.taken.Due.{Due}
 use Rattle.claims.specs.declared.tree.Node.{Node}
 
@@ -29,10 +28,14 @@ judge_at vars F text p at = judge_parts vars F (length text) p (tokens_at text a
 abbrev pub judge_from : ℕ → List Clause → List ℕ → Part → ℕ → ClaimsAnswer
 judge_from vars F text p at = unless (first_of (model_rules F p)) (judge_at vars F text p at)
 
+-- a place where the judgement goes on, or its answer
+abbrev pub Step : Type 0
+Step = Result ℕ ClaimsAnswer
+
 -- from one part to another
 pub data Leads (vars : ℕ) (F : List Clause) (text : List ℕ) (p : Part) (at : ℕ) (q : Part) : Step → Type 0 where
-  on : {to : ℕ} → judge_from vars F text p at ≡ judge_from vars F text q to → Leads vars F text p at q (Step.On to)
-  stop : {a : ClaimsAnswer} → judge_from vars F text p at ≡ a → Leads vars F text p at q (Step.Stop a)
+  on : {to : ℕ} → judge_from vars F text p at ≡ judge_from vars F text q to → Leads vars F text p at q (Ok to)
+  stop : {a : ClaimsAnswer} → judge_from vars F text p at ≡ a → Leads vars F text p at q (Err a)
 
 -- ---- a number
 
@@ -40,11 +43,15 @@ pub data Leads (vars : ℕ) (F : List Clause) (text : List ℕ) (p : Part) (at :
 pub record SignFits (e : Entry) : Type 0 where
   pub some : e.minus ≡ true → 1 ≤ e.number
 
+-- the number that is due, or the answer
+abbrev pub Number : Type 0
+Number = Result Spot ClaimsAnswer
+
 -- the answer, whatever is due; or the number that stands next
 pub data NumberDue (text : List ℕ) (at : ℕ) : Number → Type 0 where
-  no_number : {a : ClaimsAnswer} → ((vars : ℕ) (F : List Clause) (p : Part) → Unfinished p → judge_at vars F text p at ≡ a) → NumberDue text at (Number.Stop a)
-  number : {from to : ℕ} {e : Entry} → Next text at from to → entry_of (bytes_at text from to) ≡ some (value_of e) → SignFits e
-      → NumberDue text at (Number.Is from to e)
+  no_number : {a : ClaimsAnswer} → ((vars : ℕ) (F : List Clause) (p : Part) → Unfinished p → judge_at vars F text p at ≡ a) → NumberDue text at (Err a)
+  number : {s : Spot} → Next text at s.from s.to → entry_of (bytes_at text s.from s.to) ≡ some (value_of s.entry) → SignFits s.entry
+      → NumberDue text at (Ok s)
 
 -- whether a number is at fault, by what is due
 abbrev pub is_faulty : Due → ℤ → Bool
@@ -61,10 +68,11 @@ pub record IsDue (vars : ℕ) (F : List Clause) (p : Part) (due : Due) : Type 0 
 -- in each part where this is due: the answer, or the number that leads on
 pub data Taken (text : List ℕ) (at : ℕ) (due : Due) : Number → Type 0 where
   stops : {a : ClaimsAnswer} → ((vars : ℕ) (F : List Clause) (p : Part) → IsDue vars F p due → judge_at vars F text p at ≡ a)
-      → Taken text at due (Number.Stop a)
-  takes : {from to : ℕ} {e : Entry}
-      → ((vars : ℕ) (F : List Clause) (p : Part) → IsDue vars F p due → judge_at vars F text p at ≡ judge_from vars F text (next vars p from (value_of e)) to)
-      → is_faulty due (value_of e) ≡ false → SignFits e → Taken text at due (Number.Is from to e)
+      → Taken text at due (Err a)
+  takes : {s : Spot}
+      → ((vars : ℕ) (F : List Clause) (p : Part) → IsDue vars F p due
+      → judge_at vars F text p at ≡ judge_from vars F text (next vars p s.from (value_of s.entry)) s.to)
+      → is_faulty due (value_of s.entry) ≡ false → SignFits s.entry → Taken text at due (Ok s)
 
 -- ---- trees
 
@@ -73,16 +81,16 @@ abbrev pub is_unset_at : Values → ℕ → Bool
 is_unset_at vs i = eqb (value_at vs i) 0
 
 -- the first number of a tree that is due under vs
-pub data NodeDue (F : List Clause) (text : List ℕ) (vs : Values) (at : ℕ) : Node → Type 0 where
+pub data NodeDue (F : List Clause) (text : List ℕ) (vs : Values) (at : ℕ) : Result Node ClaimsAnswer → Type 0 where
   node_end : {to : ℕ}
       → ((vars n k : ℕ) (due : List Values) → judge_at vars F text (claims_due n k (vs ∷ due)) at ≡ judge_at vars F text (claims_due n k due) to)
-      → NodeDue F text vs at (Node.End to)
+      → NodeDue F text vs at (Ok (Node.End to))
   node_split : {i to : ℕ} → value_at vs i ≡ 0
       → ((vars n k : ℕ) (due : List Values)
       → judge_at vars F text (claims_due n k (vs ∷ due)) at ≡ judge_at vars F text (claims_due n k (set vs i 1 ∷ set vs i 2 ∷ due)) to)
-      → NodeDue F text vs at (Node.Split i to)
+      → NodeDue F text vs at (Ok (Node.Split i to))
   node_stop : {a : ClaimsAnswer} → ((vars n k : ℕ) (due : List Values) → judge_at vars F text (claims_due n k (vs ∷ due)) at ≡ a)
-      → NodeDue F text vs at (Node.Stop a)
+      → NodeDue F text vs at (Err a)
 
 -- a tree that is due under vs, whatever is due behind it
 pub record TreeRead (F : List Clause) (text : List ℕ) (vs : Values) (at : ℕ) (result : Step) : Type 0 where
@@ -103,8 +111,8 @@ pub record LiteralsRead (text : List ℕ) (at vars : ℕ) (result : Step) (after
 -- the whole model: the number of claims is due, or the answer
 pub data ModelRead (vars : ℕ) (F : List Clause) (text : List ℕ) : Step → Type 0 where
   model_on : {to : ℕ} (from : ℕ) (vs : Values) → judge_at vars F text model_due 0 ≡ judge_at vars F text (literals_due from 0 vs) to
-      → ModelRead vars F text (Step.On to)
-  model_stop : {a : ClaimsAnswer} → judge_at vars F text model_due 0 ≡ a → ModelRead vars F text (Step.Stop a)
+      → ModelRead vars F text (Ok to)
+  model_stop : {a : ClaimsAnswer} → judge_at vars F text model_due 0 ≡ a → ModelRead vars F text (Err a)
 
 -- ---- claims
 

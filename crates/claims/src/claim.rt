@@ -3,30 +3,31 @@ ghost use Rattle.std.specs.Prelude.{length};
 ghost use Rattle.rules.specs.Meaning.{clauses};
 ghost use Rattle.claims.specs.Steps.{Unset, ClaimChecked, ClaimsChecked, EndChecked};
 
-use crate::step::{Number, Step};
 use crate::taken::{Due, taken};
 use crate::tree::check_tree;
 use formula::value::byte_of;
-use reader::next::{Found, next_number};
+use reader::next::next_number;
 use rules::ClaimsAnswer;
 
 // One claim, where no variable is set: where its tree ends, or the answer.
 // Rules out: a tree checked under the claim itself; 0 as a claim.
 // Required of: check_claims_from, which requires it too.
-fn check_claim(entries: &[i32], starts: &[u16], text: &[u8], at: usize, values: &mut [u8]) -> Step
+fn check_claim(
+    entries: &[i32],
+    starts: &[u16],
+    text: &[u8],
+    at: usize,
+    values: &mut [u8],
+) -> Result<usize, ClaimsAnswer>
     requires { Unset entries.now starts.now values.old }
     ensures { ClaimChecked (clauses entries.now) text.now at values.old result values.new }
 {
-    match taken(text, at, Due::Claim(values.len() as u32)) {
-        Number::Stop(answer) => Step::Stop(answer),
-        Number::Is(_, to, e) => {
-            let i = e.number as usize - 1;
-            values[i] = byte_of(e.minus);
-            let end = check_tree(entries, starts, text, to, values);
-            values[i] = 0;
-            end
-        }
-    }
+    let claim = taken(text, at, Due::Claim(values.len() as u32))?;
+    let i = claim.entry.number as usize - 1;
+    values[i] = byte_of(claim.entry.minus);
+    let end = check_tree(entries, starts, text, claim.to, values);
+    values[i] = 0;
+    end
 }
 
 // Where the last of n claims has been read: the text has to end.
@@ -35,9 +36,9 @@ fn end_at(text: &[u8], at: usize, n: u32) -> ClaimsAnswer
     ensures { EndChecked text.now at n result }
 {
     match next_number(text, at) {
-        Found::TextEnd => ClaimsAnswer::Accepted(n),
-        Found::Malformed(from) => ClaimsAnswer::BadToken(from),
-        Found::Is(from, _, _) => ClaimsAnswer::Rejected(from),
+        Ok(Some(spot)) => ClaimsAnswer::Rejected(spot.from),
+        Ok(None) => ClaimsAnswer::Accepted(n),
+        Err(from) => ClaimsAnswer::BadToken(from),
     }
 }
 
@@ -56,16 +57,10 @@ pub fn check_all(
     ensures { ClaimsChecked (length values.old) (clauses entries.now) text.now at n result }
 {
     let mut next = at;
-    let mut left = n;
-    while 0 < left {
+    for _ in 0..n {
         match check_claim(entries, starts, text, next, values) {
-            Step::Stop(answer) => {
-                return answer;
-            }
-            Step::On(to) => {
-                next = to;
-                left -= 1;
-            }
+            Ok(to) => next = to,
+            Err(answer) => return answer,
         }
     }
     end_at(text, next, n)

@@ -7,10 +7,8 @@ ghost use Rattle.texts.specs.ClaimsReading.{claims_given, Checks};
 ghost use Rattle.formula.specs.Formula.{Formula};
 ghost use Rattle.claims.specs.Steps.{Unset, CountChecked, FileChecked, ListTaken};
 
-use buffers::clear::clear_bytes;
 use formula::starts::find_starts;
 use rules::ClaimsAnswer;
-use step::{Number, Step};
 use taken::{Due, taken};
 
 pub mod claim;
@@ -33,8 +31,8 @@ fn check_counted(
     ensures { CountChecked (length values.old) (clauses entries.now) text.now at result }
 {
     match taken(text, at, Due::Claims) {
-        Number::Stop(answer) => answer,
-        Number::Is(_, to, e) => claim::check_all(entries, starts, text, to, e.number, values),
+        Err(answer) => answer,
+        Ok(spot) => claim::check_all(entries, starts, text, spot.to, spot.entry.number, values),
     }
 }
 
@@ -46,9 +44,9 @@ fn check_file(entries: &[i32], starts: &[u16], text: &[u8], values: &mut [u8]) -
     ensures { FileChecked (length values.old) (clauses entries.now) text.now result }
 {
     match model::read_model(entries, starts, text, values) {
-        Step::Stop(answer) => answer,
-        Step::On(next) => {
-            clear_bytes(values);
+        Err(answer) => answer,
+        Ok(next) => {
+            values.fill(0);
             check_counted(entries, starts, text, next, values)
         }
     }

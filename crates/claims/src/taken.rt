@@ -3,7 +3,8 @@ ghost use Rattle.std.specs.Prelude.{◌≡◌};
 ghost use Rattle.reader.specs.Words.{value_of};
 ghost use Rattle.claims.specs.Steps.{SignFits, is_faulty, Taken};
 
-use crate::step::{Number, number_at};
+use crate::step::number_at;
+use reader::next::Spot;
 use reader::token::Entry;
 use rules::ClaimsAnswer;
 
@@ -43,16 +44,12 @@ fn is_faulty(due: Due, e: Entry) -> bool
 
 // The number that is due, if it is not at fault; or the answer.
 // Rules out: the place of the number before it for one at fault; 17 for a malformed token.
-pub fn taken(text: &[u8], at: usize, due: Due) -> Number
+pub fn taken(text: &[u8], at: usize, due: Due) -> Result<Spot, ClaimsAnswer>
     ensures { Taken text.now at due result }
 {
-    match number_at(text, at) {
-        Number::Stop(answer) => Number::Stop(answer),
-        Number::Is(from, to, e) => {
-            if is_faulty(due, e) {
-                return Number::Stop(ClaimsAnswer::Rejected(from));
-            }
-            Number::Is(from, to, e)
-        }
+    let spot = number_at(text, at)?;
+    if is_faulty(due, spot.entry) {
+        return Err(ClaimsAnswer::Rejected(spot.from));
     }
+    Ok(spot)
 }

@@ -9,10 +9,10 @@ ghost use Rattle.formula.specs.Clauses.{ClauseUpTo};
 ghost use Rattle.formula.specs.Formula.{Formula};
 ghost use Rattle.claims.specs.Steps.{NodeDue, TreeChecked, is_unset_at};
 
-use crate::step::{Number, Step, number_at};
+use crate::step::number_at;
+use formula::clause::clause_at;
 use formula::lit::{sign, var_of};
 use formula::value::{byte_of, index_of};
-use formula::view::clause_in;
 use rules::{ClaimsAnswer, ClauseNo, Lit};
 
 // Whether a literal of one of the variables is false.
@@ -33,16 +33,7 @@ fn is_all_false(clause: &[i32], values: &[u8]) -> bool
     requires { ClauseUpTo (length values.now) clause.now }
     ensures { result ≡ all (is_false values.now) clause.now }
 {
-    let mut i = 0;
-    while i < clause.len() {
-        let l = Lit(clause[i]);
-        if is_false(l, values) {
-            i += 1;
-        } else {
-            return false;
-        }
-    }
-    true
+    clause.iter().all(|l| is_false(Lit(*l), values))
 }
 
 // Whether n names a clause whose literals are all false.
@@ -58,7 +49,7 @@ fn is_end(entries: &[i32], starts: &[u16], values: &[u8], n: u32) -> bool
     if starts.len() <= n as usize {
         return false;
     }
-    let clause = clause_in(entries, values.len(), starts, &entries[..0], ClauseNo(n));
+    let clause = clause_at(entries, starts, &[], ClauseNo(n));
     is_all_false(clause, values)
 }
 
@@ -73,37 +64,37 @@ fn is_unset_at(values: &[u8], i: usize) -> bool
     values[i] == 0
 }
 
-// What a tree begins with: an end, and the place behind it; a split, with the index of its variable, and the place behind it; or the answer.
+// What a tree begins with: an end, and the place behind it; or a split, with the index of its variable, and the place behind it.
 #[derive(Clone, Copy)]
 pub enum Node {
     End(usize),
     Split(usize, usize),
-    Stop(ClaimsAnswer),
 }
 
 // The first number of a tree.
 // Rules out: an end whose clause has an unset literal taken; a split on a set variable taken.
 // Required of: check_tree, which requires it too.
-fn node_at(entries: &[i32], starts: &[u16], text: &[u8], at: usize, values: &[u8]) -> Node
+fn node_at(
+    entries: &[i32],
+    starts: &[u16],
+    text: &[u8],
+    at: usize,
+    values: &[u8],
+) -> Result<Node, ClaimsAnswer>
     requires { Formula (length values.now) entries.now starts.now }
     ensures { NodeDue (clauses entries.now) text.now values.now at result }
 {
-    match number_at(text, at) {
-        Number::Stop(answer) => Node::Stop(answer),
-        Number::Is(from, to, e) => {
-            if e.minus {
-                let i = e.number as usize - 1;
-                if is_unset_at(values, i) {
-                    return Node::Split(i, to);
-                }
-                return Node::Stop(ClaimsAnswer::Rejected(from));
-            }
-            if is_end(entries, starts, values, e.number) {
-                return Node::End(to);
-            }
-            Node::Stop(ClaimsAnswer::Rejected(from))
+    let spot = number_at(text, at)?;
+    let entry = spot.entry;
+    if entry.minus {
+        let i = entry.number as usize - 1;
+        if is_unset_at(values, i) {
+            return Ok(Node::Split(i, spot.to));
         }
+    } else if is_end(entries, starts, values, entry.number) {
+        return Ok(Node::End(spot.to));
     }
+    Err(ClaimsAnswer::Rejected(spot.from))
 }
 
 // A tree, under the values: where it ends, or the answer. They are the same afterwards.
@@ -115,21 +106,21 @@ pub fn check_tree(
     text: &[u8],
     at: usize,
     values: &mut [u8],
-) -> Step
+) -> Result<usize, ClaimsAnswer>
     requires { Formula (length values.old) entries.now starts.now }
     ensures { TreeChecked (clauses entries.now) text.now at values.old result values.new }
 {
-    match node_at(entries, starts, text, at, values) {
-        Node::Stop(answer) => Step::Stop(answer),
-        Node::End(to) => Step::On(to),
+    let node = node_at(entries, starts, text, at, values)?;
+    match node {
+        Node::End(to) => Ok(to),
         Node::Split(i, to) => {
             values[i] = 1;
             match check_tree(entries, starts, text, to, values) {
-                Step::Stop(answer) => {
+                Err(answer) => {
                     values[i] = 0;
-                    Step::Stop(answer)
+                    Err(answer)
                 }
-                Step::On(next) => {
+                Ok(next) => {
                     values[i] = 2;
                     let last = check_tree(entries, starts, text, next, values);
                     values[i] = 0;

@@ -2,7 +2,6 @@
 --
 --   taken_back        a byte stored and stored back
 --   tested_at         at an index
---   flip_by_first     the first false clause is what the flip test answers
 --   none_may          that no clause was found is that the flip may be made
 --   Flipping, flipping_step, flipping_done     the loop of `flip`
 --   flips_open     what `flip_at` does at an open variable, and at another
@@ -33,10 +32,6 @@ use Rattle.rules.proofs.HintLaws.{can_flip-may_flip}
 
 pub taken_back : (vs : Values) (i b : ℕ) → set (set vs i b) i (get_or vs i 0) ≡ vs
 taken_back vs i b = set-set vs i b (get_or vs i 0) ∙ set-get_or vs i 0
-
-pub flip_by_first : (o : Option ℕ) → first_false_of o ≡ flip_by o
-flip_by_first none = refl
-flip_by_first (some n) = refl
 
 -- ---- one index
 

@@ -1,11 +1,10 @@
 -- `claims::model::read_literals` meets its contract. Assumes nothing.
 use mathlib.Core.Path.{sym, subst}
-use mathlib.Core.List.{List}
 use Prim.Native.Nat.{ℕ, ◌+◌, ◌<◌}
 use native.Mathlib.Omega.{arith}
 use lib.ListN.{length, set}
-use Rattle.claims.specs.declared.taken.Due.{Due}
-use Rattle.claims.specs.Steps.{Taken}
+use lib.Seq.{set-get_or}
+use Rattle.std.proofs.lemmas.Result.{err_from_is_err_and}
 use Rattle.claims.proofs.ModelLaws.{Reading, reading_start, reading_step, reading_stop, reading_done}
 use Rattle.claims.proofs.model.read_literals.Goals as goal
 
@@ -13,24 +12,18 @@ pub loop-i-init : goal.loop-i-init
 loop-i-init c =
     reading_start _ _ _
 
-pub returns-in-Stop : goal.returns-in-Stop
-returns-in-Stop c =
-    let text : List ℕ = c.args.text.now in
-    let vars : ℕ = length c.args.values.now in
-    let more : c.loop-i.i < vars = omega (arith, c.loop-i-test.true, c.loop-i.invariant.length_is) in
-    reading_stop c.loop-i.invariant more
-    (subst (Taken text c.loop-i.next (Due.Literal (c.loop-i.i + 1))) c.in-Stop.is c.taken.ensures)
+pub returns-in_err-spot : goal.returns-in_err-spot
+returns-in_err-spot c =
+    let more : c.loop-i.i < length c.args.values.now = omega (arith, c.loop-i-test.true, c.loop-i.invariant.length_is) in
+    let p = err_from_is_err_and c.from_residual.result c.from_residual.ensures.1 in
+    rw (p.1, p.2, set-get_or c.loop-i.values c.loop-i.i) (reading_stop c.loop-i.invariant more c.in_err-spot.ensures)
 
 pub loop-i-preserved : goal.loop-i-preserved
 loop-i-preserved c =
-    let text : List ℕ = c.args.text.now in
-    let vars : ℕ = length c.args.values.now in
-    let more : c.loop-i.i < vars = omega (arith, c.loop-i-test.true, c.loop-i.invariant.length_is) in
-    let i = c.loop-i.i in
-    subst (λ (x : ℕ). Reading text c.args.at vars (i + 1) c.in-Is.to (set c.loop-i.values i x))
+    let more : c.loop-i.i < length c.args.values.now = omega (arith, c.loop-i-test.true, c.loop-i.invariant.length_is) in
+    subst (λ (x : ℕ). Reading c.args.text.now c.args.at (length c.args.values.now) (c.loop-i.i + 1) c.in_ok-spot.spot.to (set c.loop-i.values c.loop-i.i x))
     (sym c.byte_of.ensures)
-    (reading_step c.loop-i.invariant more
-    (subst (Taken text c.loop-i.next (Due.Literal (i + 1))) c.in-Is.is c.taken.ensures))
+    (reading_step c.loop-i.invariant more c.in_ok-spot.ensures)
 
 pub returns : goal.returns
 returns c =

@@ -7,6 +7,7 @@ use lib.ListN.{length, set, length-set}
 use Rattle.rules.specs.Closing.{unsets}
 use Rattle.rules.specs.Meaning.{Values, clauses, value_at}
 use Rattle.rules.proofs.MeaningLaws.{unset_within}
+use Rattle.std.proofs.lemmas.Result.{err_from_is_err_and}
 use Rattle.claims.specs.Steps.{TreeRead}
 use Rattle.claims.proofs.TreeLaws.{split_unset, tree_stop, tree_end, tree_first, tree_both, set-again, taken_back, falls_set, formula_same}
 use Rattle.claims.proofs.tree.+check_tree.Goals as goal
@@ -25,72 +26,74 @@ fewer_again values first index a b t unset same e =
     omega (arith, e, falls_set values (set first index (suc b)) index b unset (set-again values first index a (suc b) same))
 
 pub bounds-values-i : goal.bounds-values-i
-bounds-values-i t c = unset_within c.args.values.now c.in-Split.i (split_unset c.in-Split.ensures)
+bounds-values-i t c = unset_within c.args.values.now c.in-Split.i (split_unset (rw c.in-Split.is at c.in_ok-node.ensures))
 
 pub check_tree-requires : goal.check_tree-requires
 check_tree-requires t c = (
-  fewer c.args.values.now c.in-Split.i _ t (split_unset c.in-Split.ensures) c.decreases,
+  fewer c.args.values.now c.in-Split.i _ t (split_unset (rw c.in-Split.is at c.in_ok-node.ensures)) c.decreases,
   formula_same c.args.values.now _ c.in-Split.i _ refl c.requires,
 )
 
-pub bounds-values-i-in-Stop-check_tree : goal.bounds-values-i-in-Stop-check_tree
-bounds-values-i-in-Stop-check_tree t c =
-    within c.args.values.now c.check_tree.new.values c.in-Split.i _ (split_unset c.in-Split.ensures) c.check_tree.ensures.same
+pub bounds-values-i-in-Err : goal.bounds-values-i-in-Err
+bounds-values-i-in-Err t c =
+    within c.args.values.now c.check_tree.new.values c.in-Split.i _ (split_unset (rw c.in-Split.is at c.in_ok-node.ensures)) c.check_tree.ensures.same
 
-pub bounds-values-i-in-On : goal.bounds-values-i-in-On
-bounds-values-i-in-On t c =
-    within c.args.values.now c.check_tree.new.values c.in-Split.i _ (split_unset c.in-Split.ensures) c.check_tree.ensures.same
+pub bounds-values-i-in-Ok : goal.bounds-values-i-in-Ok
+bounds-values-i-in-Ok t c =
+    within c.args.values.now c.check_tree.new.values c.in-Split.i _ (split_unset (rw c.in-Split.is at c.in_ok-node.ensures)) c.check_tree.ensures.same
 
 pub check_tree-last-requires : goal.check_tree-last-requires
 check_tree-last-requires t c =
     let before = c.args.values.now in
     let i = c.in-Split.i in (
-      fewer_again before c.check_tree.new.values i _ _ t (split_unset c.in-Split.ensures) c.check_tree.ensures.same c.decreases,
+      fewer_again before c.check_tree.new.values i _ _ t (split_unset (rw c.in-Split.is at c.in_ok-node.ensures)) c.check_tree.ensures.same c.decreases,
       formula_same before _ i _ (set-again before c.check_tree.new.values i _ _ c.check_tree.ensures.same) c.requires,
     )
 
-pub bounds-values-i-in-On-2 : goal.bounds-values-i-in-On-2
-bounds-values-i-in-On-2 t c =
+pub bounds-values-i-in-Ok-2 : goal.bounds-values-i-in-Ok-2
+bounds-values-i-in-Ok-2 t c =
     let before = c.args.values.now in
     let i = c.in-Split.i in
-    within before c.check_tree-last.new.values i _ (split_unset c.in-Split.ensures)
+    within before c.check_tree-last.new.values i _ (split_unset (rw c.in-Split.is at c.in_ok-node.ensures))
     (c.check_tree-last.ensures.same ∙ set-again before c.check_tree.new.values i _ _ c.check_tree.ensures.same)
 
-pub returns-in-Stop : goal.returns-in-Stop
-returns-in-Stop t c = record { read = tree_stop c.in-Stop.ensures; same = refl }
+pub returns-in_err-node : goal.returns-in_err-node
+returns-in_err-node t c =
+    let p = err_from_is_err_and c.from_residual.result c.from_residual.ensures.1 in
+    rw (p.1, p.2) (record { read = tree_stop c.in_err-node.ensures; same = refl })
 
 pub returns-in-End : goal.returns-in-End
-returns-in-End t c = record { read = tree_end c.in-End.ensures; same = refl }
+returns-in-End t c = record { read = tree_end (rw c.in-End.is at c.in_ok-node.ensures); same = refl }
 
-pub shape_of-values-in-Stop-check_tree : goal.shape_of-values-in-Stop-check_tree
-shape_of-values-in-Stop-check_tree t c =
+pub shape_of-values-in-Err : goal.shape_of-values-in-Err
+shape_of-values-in-Err t c =
     ap length
-    (taken_back c.args.values.now c.check_tree.new.values c.in-Split.i _ (split_unset c.in-Split.ensures) c.check_tree.ensures.same)
+    (taken_back c.args.values.now c.check_tree.new.values c.in-Split.i _ (split_unset (rw c.in-Split.is at c.in_ok-node.ensures)) c.check_tree.ensures.same)
 
-pub returns-in-Stop-check_tree : goal.returns-in-Stop-check_tree
-returns-in-Stop-check_tree t c = record {
-  read = tree_first c.in-Split.ensures c.in-Stop-check_tree.ensures.read;
-  same = taken_back c.args.values.now c.check_tree.new.values c.in-Split.i _ (split_unset c.in-Split.ensures) c.check_tree.ensures.same;
+pub returns-in-Err : goal.returns-in-Err
+returns-in-Err t c = record {
+  read = tree_first (rw c.in-Split.is at c.in_ok-node.ensures) c.in-Err.ensures.read;
+  same = taken_back c.args.values.now c.check_tree.new.values c.in-Split.i _ (split_unset (rw c.in-Split.is at c.in_ok-node.ensures)) c.check_tree.ensures.same;
 }
 
-pub shape_of-values-in-On : goal.shape_of-values-in-On
-shape_of-values-in-On t c =
+pub shape_of-values-in-Ok : goal.shape_of-values-in-Ok
+shape_of-values-in-Ok t c =
     let before = c.args.values.now in
     let i = c.in-Split.i in
     ap length
-    (taken_back before c.check_tree-last.new.values i _ (split_unset c.in-Split.ensures)
+    (taken_back before c.check_tree-last.new.values i _ (split_unset (rw c.in-Split.is at c.in_ok-node.ensures))
     (c.check_tree-last.ensures.same ∙ set-again before c.check_tree.new.values i _ _ c.check_tree.ensures.same))
 
-pub returns-in-On : goal.returns-in-On
-returns-in-On t c =
+pub returns-in-Ok : goal.returns-in-Ok
+returns-in-Ok t c =
     let before = c.args.values.now in
     let first = c.check_tree.new.values in
     let i = c.in-Split.i in
     let again : set first i 2 ≡ set before i 2 = set-again before first i 1 2 c.check_tree.ensures.same in
     record {
       read =
-          tree_both c.in-Split.ensures c.in-On.ensures.read
-          (subst (λ (us : Values). TreeRead (clauses c.args.entries.now) c.args.text.now us c.in-On.next c.check_tree-last.result) again
+          tree_both (rw c.in-Split.is at c.in_ok-node.ensures) c.in-Ok.ensures.read
+          (subst (λ (us : Values). TreeRead (clauses c.args.entries.now) c.args.text.now us c.in-Ok.next c.check_tree-last.result) again
           c.check_tree-last.ensures.read);
-      same = taken_back before c.check_tree-last.new.values i _ (split_unset c.in-Split.ensures) (c.check_tree-last.ensures.same ∙ again);
+      same = taken_back before c.check_tree-last.new.values i _ (split_unset (rw c.in-Split.is at c.in_ok-node.ensures)) (c.check_tree-last.ensures.same ∙ again);
     }

@@ -19,8 +19,8 @@ pub returns-then-starts-n : goal.returns-then-starts-n
 returns-then-starts-n c =
     sym (end_above (clauses c.args.entries.now) c.args.values.now c.args.n (omega (arith, c.if-starts-n.true, length_starts c.requires)))
 
-pub clause_in-clause-requires : goal.clause_in-clause-requires
-clause_in-clause-requires c =
+pub clause_at-clause-requires : goal.clause_at-clause-requires
+clause_at-clause-requires c =
     let some : 1 ≤ c.args.n = omega (arith, c.if-n-eq0.false) in
     let most : c.args.n ≤ length (clauses c.args.entries.now) = omega (arith, c.if-starts-n.false, length_starts c.requires) in
     record { starts_are = c.requires.starts_are; some = some; most = omega (arith, most) }
@@ -29,7 +29,7 @@ pub is_all_false-requires : goal.is_all_false-requires
 is_all_false-requires c =
     let some : 1 ≤ c.args.n = omega (arith, c.if-n-eq0.false) in
     let most : c.args.n ≤ length (clauses c.args.entries.now) = omega (arith, c.if-starts-n.false, length_starts c.requires) in
-    rw c.clause_in-clause.ensures
+    rw c.clause_at-clause.ensures
     (up_to_number (length c.args.values.now) c.args.entries.now c.args.n c.requires.up_to some most)
 
 pub returns : goal.returns
@@ -39,5 +39,5 @@ returns c =
     let F = clauses c.args.entries.now in
     c.is_all_false.ensures ∙
     ap (all (is_false c.args.values.now))
-    (c.clause_in-clause.ensures ∙ sym (clause_at_formula c.args.entries.now [] c.args.n some most)) ∙
+    (c.clause_at-clause.ensures ∙ sym (clause_at_formula c.args.entries.now [] c.args.n some most)) ∙
     sym (end_named F c.args.values.now c.args.n some most)
