@@ -1,6 +1,6 @@
 -- The laws of the questions: the visits, the second call and the first.
 --
---   visited_model, visited_otherwise, length-mark_by     the marks behind a visit
+--   visited_model, visited_otherwise     the marks behind a visit
 --   asked_same                    what is required, by the lengths of the buffers
 --   Visiting, visiting_start, visiting_step, visiting_stop, visiting_done     the loop over the clauses
 --   second_marks, second_false, second_none, second_stopped     the second call
@@ -13,7 +13,7 @@ use mathlib.Core.List.{List, [], ◌++◌, map}
 use Prim.Native.Nat.{ℕ, zero, suc, ◌+◌, ◌-◌, ◌≤◌, ◌<◌}
 use native.Mathlib.Omega.{arith}
 use lib.IntN.{ℤ}
-use lib.ListN.{length, get_or, set, take, drop, replicate, length-set, length-replicate, get_or-replicate, get_or-append}
+use lib.ListN.{length, get_or, set, take, drop, replicate, length-replicate, get_or-replicate, get_or-append}
 use lib.Seq.{set-set, set-get_or, get_or-set_other}
 use Rattle.rules.specs.declared.Outcome.{Outcome}
 use Rattle.rules.specs.declared.WhyAnswer.{WhyAnswer}
@@ -43,11 +43,6 @@ pub visited_otherwise : (o : Outcome) (ms : List ℕ) (n : ℕ) → o ≢ Outcom
 visited_otherwise Outcome.Model ms n h = absurd (h refl)
 visited_otherwise Outcome.NoModel ms n h = refl
 visited_otherwise Outcome.Stopped ms n h = refl
-
-pub length-mark_by : (o : Outcome) (ms : List ℕ) (n : ℕ) → length (mark_by o ms n) ≡ length ms
-length-mark_by Outcome.Model ms n = length-set ms n 1
-length-mark_by Outcome.NoModel ms n = length-set ms n 0
-length-mark_by Outcome.Stopped ms n = length-set ms n 0
 
 -- what is required, by the lengths of the buffers
 pub asked_same : {vars vars' : ℕ} {es : List ℤ} {l : ℤ} {kept kept' : List ℤ} {starts starts' marks marks' : List ℕ}

@@ -3,8 +3,6 @@
 --   clauses-marked    their clauses are the marked ones
 --   marked_in, length-markedEntries, length_marked     they are entries of the list, and no more
 --   Puts, puts_start, puts_clause, puts_room, puts_zero, puts_other, puts_done     the loop that puts them
---   puts_one          one entry that is put
---   ones_more         one mark more
 --
 -- Assumes nothing.
 use mathlib.Core.Path.{◌≡◌, refl, sym, ◌∙◌, ap}
@@ -16,8 +14,8 @@ use Prim.Native.Nat.{ℕ, zero, suc, ◌+◌, ◌≤◌, ◌<◌}
 use native.Mathlib.Omega.{arith}
 use native.Mathlib.Numerals.{add-one}
 use lib.IntN.{ℤ, pos, negsuc}
-use lib.ListN.{get_or, set, length, take, drop, replicate, length-set, length-replicate, drop_of_length-le}
-use lib.Seq.{drop-cons, take-suc-set, append_snoc, set_at}
+use lib.ListN.{get_or, length, take, drop, replicate, length-set, drop_of_length-le}
+use lib.Seq.{drop-cons, take-suc-set, append_snoc}
 use Rattle.rules.specs.Lists.{In}
 use Rattle.rules.specs.Meaning.{Clause, leading, clauses}
 use Rattle.rules.specs.Answer.{is_ended}
@@ -27,10 +25,6 @@ use Rattle.rules.proofs.ClauseLaws.{length-leading}
 use Rattle.reason.specs.Kept.{entry_if, marked_entries, next_if, put_if, PutsIf, MarkRoom, MarkedPut}
 
 -- ---- the clauses of the marked entries
-
-marked_nil : (ms : List ℕ) → marked ms [] ≡ []
-marked_nil [] = refl
-marked_nil (m ∷ ms) = refl
 
 -- a literal in front of the first clause
 leading-marked : (l : ℤ) (m : ℕ) (ms : List ℕ) (es rest : List ℤ) → clauses rest ≡ marked (m ∷ ms) (clauses es)
@@ -203,15 +197,3 @@ puts_done {es} {ms} {now = now} {k} {n} {i} w h =
 ones_snoc : (i : ℕ) (rest : List ℕ) → replicate i 1 ++ 1 ∷ rest ≡ replicate (suc i) 1 ++ rest
 ones_snoc zero rest = refl
 ones_snoc (suc i) rest = ap (λ (xs : List ℕ). 1 ∷ xs) (ones_snoc i rest)
-
-pub ones_more : (i : ℕ) (ms : List ℕ) → i < length ms → set (replicate i 1 ++ drop i ms) i 1 ≡ replicate (i + 1) 1 ++ drop (i + 1) ms
-ones_more i ms h =
-    rw (add-one i, drop-cons ms i 0 h)
-    (set_at (replicate i 1) (get_or ms i 0) (drop (suc i) ms) 1 i (length-replicate i 1) ∙ ones_snoc i (drop (suc i) ms))
-
--- ---- one entry that is put
-
-pub puts_one : (mark : ℕ) (es : List ℤ) (i n : ℕ) (before : List ℤ) → mark ≢ 0
-    → PutsIf mark es i n before (n + 1) (set before n (get_or es i (pos 0)))
-puts_one zero es i n before h = absurd (h refl)
-puts_one (suc m) es i n before h = record { next_is = refl; after_is = refl }

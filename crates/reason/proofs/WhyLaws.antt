@@ -14,12 +14,12 @@ use lib.Seq.{length-take-le}
 use Rattle.rules.specs.declared.Refusal.{Refusal}
 use Rattle.rules.specs.declared.WhyAnswer.{WhyAnswer}
 use Rattle.rules.specs.declared.WhyReport.{WhyReport}
-use Rattle.rules.specs.Lists.{Check, first_of}
+use Rattle.rules.specs.Lists.{first_of}
 use Rattle.rules.specs.Numbers.{max_clauses}
 use Rattle.rules.specs.Why.{WhyGiven, WhyAccepted, Explains, question_of, why, why_rules, why_refusal}
 use Rattle.rules.proofs.ListLaws.{apart}
 use Rattle.rules.proofs.ClauseLaws.{length-clauses}
-use Rattle.rules.proofs.WhyRefused.{or_else, first_of_append, why_refused, why_accepted, refused_nothing, accepted_all}
+use Rattle.rules.proofs.WhyRefused.{why_refused, why_accepted, refused_nothing, accepted_all}
 use Rattle.std.specs.Prelude.{Result, Ok, Err}
 use Rattle.refusals.specs.Refuse.{found}
 use Rattle.reason.specs.Asks.{Asks, EndsAs, question}

@@ -25,12 +25,8 @@ pub fn put_marked(entries: &[i32], marks: &[u8], out: &mut [i32]) -> usize
 {
     let mut clause: usize = 0;
     let mut n: usize = 0;
-    let mut i: usize = 0;
-    while i < entries.len() {
-        let at = i;
-        let entry = entries[at];
-        i += 1;
-        n = put_if(entries, at, marks[clause], out, n);
+    for (i, &entry) in entries.iter().enumerate() {
+        n = put_if(entries, i, marks[clause], out, n);
         if entry == 0 {
             clause += 1;
         }

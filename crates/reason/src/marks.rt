@@ -8,9 +8,5 @@ pub fn mark_first(marks: &mut [u8], n: usize)
     requires { n ≤ length marks.old }
     ensures { marks.new ≡ replicate n 1 ++ drop n marks.old }
 {
-    let mut i: usize = 0;
-    while i < n {
-        marks[i] = 1;
-        i += 1;
-    }
+    marks[..n].fill(1);
 }

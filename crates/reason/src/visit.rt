@@ -53,11 +53,9 @@ pub fn visit_all(
         asking.literal.0) marks.old 2 asking.meter.spent) result marks.new values.new }
 {
     let literal = asking.literal;
-    let mut n = asking.count;
     let mut calls: u32 = 2;
     let mut left = asking.meter;
-    while 0 < n {
-        n -= 1;
+    for n in (0..asking.count).rev() {
         let next = Asking {
             literal: literal,
             count: n,

@@ -1,32 +1,30 @@
 -- The laws of specs/Answer: what the buffers of a run say of a variable, and what is answered.
 --
---   true_low, true_high       the literal that is true, by the byte, as code tests it; var_of-literal: its variable
---   free_by_out, free_by_at, free_by_in     a variable that is free by the ways
+--   free_by_out, free_by_in     a variable that is free by the ways
 --   free_by_records, call_at, way_at      the ways and calls are those of the records
---   way_witness_flip, way_witness_other, way_witness_by     the witness by the byte of the way
---   same_formula     a formula over as many variables
+--   way_witness_by     the witness by the byte of the way
 --   ways_length, models_put, free_known, shown_by, not_shown     what is put and answered
 --   witnesses_refused, witnesses_answered     the contract
 --
 -- Assumes nothing.
 use mathlib.Core.Path.{◌≡◌, refl, sym, ◌∙◌, ap}
-use mathlib.Core.Logic.{◌≢◌, ◌⊎◌, inl, inr}
+use mathlib.Core.Logic.{◌⊎◌, inl, inr}
 use mathlib.Core.Bool.{true, false}
 use mathlib.Core.List.{List}
 use Prim.Native.Nat.{ℕ, zero, suc, pred, ◌+◌, ◌-◌, ◌≤◌, ◌<◌}
 use native.Mathlib.Omega.{arith}
-use lib.IntN.{ℤ, pos}
-use lib.ListN.{length, get_or, set, length-map, get_or-map, get_or-eq_default}
+use lib.IntN.{ℤ}
+use lib.ListN.{length, get_or, length-map, get_or-map, get_or-eq_default}
 use Rattle.rules.specs.declared.Way.{Way}
 use Rattle.rules.specs.declared.Record.{Record}
 use Rattle.rules.specs.declared.Report.{Report}
 use Rattle.rules.specs.Numbers.{way_number, max_clauses, max_held}
-use Rattle.rules.specs.Meaning.{Values, var_of, negated, clauses}
+use Rattle.rules.specs.Meaning.{Values, var_of, clauses}
 use Rattle.rules.specs.Search.{Call}
 use Rattle.rules.specs.Records.{open_record, record_at, calls_of, ways_of, by_model}
-use Rattle.rules.specs.Run.{Task, Progress, literal_at, other_byte, blank, run}
+use Rattle.rules.specs.Run.{Task, Progress, literal_at, blank, run}
 use Rattle.rules.specs.Witness.{witness_by, witness_at, model_of_call, free_in, literals_from}
-use Rattle.rules.proofs.ListLaws.{le_or_lt, never, get_d_default}
+use Rattle.rules.proofs.ListLaws.{le_or_lt, never}
 use Rattle.rules.proofs.WitnessLaws.{run_first}
 use Rattle.formula.specs.Starts.{starts_of}
 use Rattle.formula.specs.Formula.{Formula}
@@ -40,18 +38,6 @@ use Rattle.witness.specs.Answer.{is_model_way, free_by, way_witness, not_free, F
 
 -- ---- the literal that is true
 
-pub true_low : (v byte : ℕ) → 1 ≤ v → byte < 2 → negated (pos v) ≡ literal_at (pred v) byte
-true_low zero byte h l = absurd (omega arith)
-true_low (suc v) zero h l = refl
-true_low (suc v) (suc zero) h l = refl
-true_low (suc v) (suc (suc b)) h l = absurd (omega arith)
-
-pub true_high : (v byte : ℕ) → 1 ≤ v → 2 ≤ byte → pos v ≡ literal_at (pred v) byte
-true_high zero byte h l = absurd (omega arith)
-true_high (suc v) zero h l = absurd (omega arith)
-true_high (suc v) (suc zero) h l = absurd (omega arith)
-true_high (suc v) (suc (suc b)) h l = refl
-
 -- its variable
 pub var_of-literal : (i b : ℕ) → var_of (literal_at i b) ≡ suc i
 var_of-literal i zero = refl
@@ -63,10 +49,6 @@ var_of-literal i (suc (suc b)) = refl
 pub free_by_out : (ws : List ℕ) (v : ℕ) → length ws ≤ v - 1 → free_by ws v ≡ false
 free_by_out ws zero h = refl
 free_by_out ws (suc i) h = ap is_model_way (get_or-eq_default ws 0 {n = i} (omega arith))
-
-pub free_by_at : (ws : List ℕ) (v : ℕ) → v ≢ 0 → free_by ws v ≡ is_model_way (get_or ws (v - 1) 0)
-free_by_at ws zero h = absurd (h refl)
-free_by_at ws (suc i) h = let e : suc i - 1 ≡ i = omega arith in rw e
 
 pub free_by_in : (ws : List ℕ) (v : ℕ) → free_by ws v ≡ true → (1 ≤ v) × (v - 1 < length ws)
 free_by_in ws zero e = absurd (never e refl)
@@ -93,16 +75,6 @@ free_by_records p zero = refl
 free_by_records p (suc i) = ap is_model_way (way_at p.records i) ∙ way_free (record_at p.records i).way
 
 -- ---- the witness
-
-pub way_witness_flip : (w : ℕ) (m : Values) (i : ℕ) → i < length m → w ≡ 2 → {byte : ℕ} → byte ≡ other_byte (get_or m i 0)
-    → set m i byte ≡ way_witness w m i
-way_witness_flip w m i h e b = rw e (ap (set m i) (b ∙ ap other_byte (get_d_default m i 0 1 h)))
-
-pub way_witness_other : (w : ℕ) (m : Values) (i : ℕ) → w ≢ 2 → way_witness w m i ≡ m
-way_witness_other zero m i h = refl
-way_witness_other (suc zero) m i h = refl
-way_witness_other (suc (suc zero)) m i h = absurd (h refl)
-way_witness_other (suc (suc (suc w))) m i h = refl
 
 way_witness_by : (w : Way) (m : Values) (i : ℕ) → way_witness (way_number w) m i ≡ witness_by w m i
 way_witness_by Way.Open m i = refl
@@ -147,9 +119,6 @@ models_put {es} {limits} {v} {model} {status} {calls} {ways} w {left} a b c =
         ap (witness_at p) index
 
 -- ---- what a run left
-
-pub same_formula : {n m : ℕ} {es : List ℤ} {starts : List ℕ} → n ≡ m → Formula m es starts → Formula n es starts
-same_formula e f = rw e f
 
 module _ {es : List ℤ} {vars : ℕ} {limits : Limits} {report : Report} {model status calls ways hints log : List ℕ}
     (d : HintsDone es vars limits report model status calls ways hints log) (allowed : Allowed limits) where

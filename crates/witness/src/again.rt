@@ -23,10 +23,8 @@ fn keep_before(status: &mut [u8], calls: &[u32], call: u32)
     requires { length calls.now ≡ length status.old }
     ensures { status.new ≡ kept_before call status.old calls.now }
 {
-    let mut i: usize = 0;
-    while i < status.len() {
-        status[i] = status_before(status[i], calls[i], call);
-        i += 1;
+    for (i, now) in status.iter_mut().enumerate() {
+        *now = status_before(*now, calls[i], call);
     }
 }
 
@@ -38,10 +36,8 @@ fn tries_of(log: &[u32], rows: u32) -> u32
     ensures { result ≡ tries_in log.now rows }
 {
     let mut sum: u32 = 0;
-    let mut i: u32 = 0;
-    while i < rows {
+    for i in 0..rows {
         sum += log[6 * i as usize + 5];
-        i += 1;
     }
     sum
 }

@@ -24,11 +24,7 @@ pub fn put_literals(model: &[u8], out: &mut [i32])
     requires { LiteralsOver model.now out.old }
     ensures { out.new ≡ literals_from 0 model.now }
 {
-    let mut i: usize = 0;
-    while i < out.len() {
-        let l = true_literal(rules::Var(i as u32 + 1), model[i]);
-        let entry = l.0;
-        out[i] = entry;
-        i += 1;
+    for (i, entry) in out.iter_mut().enumerate() {
+        *entry = true_literal(rules::Var(i as u32 + 1), model[i]).0;
     }
 }

@@ -2,19 +2,13 @@
 use mathlib.Core.Path.{sym, ◌∙◌}
 use Rattle.rules.specs.Setup.{setup_refusal}
 use Rattle.rules.specs.Close.{close_given, close_setup, close_refusal}
-use Rattle.setup.proofs.SetupLaws.{values_fit, taken}
+use Rattle.setup.proofs.SetupLaws.{taken}
 use Rattle.closing.proofs.CloseLaws.{closes_refused, closes_accepted}
 use Rattle.closing.proofs.close.Goals as goal
 
 pub returns-in-Err : goal.returns-in-Err
 unfolding setup_refusal close_refusal
 returns-in-Err c = closes_refused _ (sym c.in-Err.is ∙ c.refuse.ensures)
-
-pub slice_bounds-with_held-end : goal.slice_bounds-with_held-end
-unfolding setup_refusal
-slice_bounds-with_held-end c =
-    let a = c.args in
-    values_fit (close_setup (close_given a.entries.now a.vars a.held.now a.values.now)) (sym c.in_default.is ∙ c.refuse.ensures)
 
 pub with_held-requires : goal.with_held-requires
 unfolding setup_refusal

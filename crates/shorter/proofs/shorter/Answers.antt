@@ -1,7 +1,6 @@
 -- `shorter` meets its contract: what is refused writes nothing; what is accepted is run, and its text is written. Assumes nothing.
 use mathlib.Core.Path.{sym, ◌∙◌}
-use Rattle.texts.specs.Shorter.{ShorterGiven, shorter_given, shorter_refusal}
-use Rattle.refusals.specs.Refuse.{found}
+use Rattle.texts.specs.Shorter.{shorter_refusal}
 use Rattle.shorter.proofs.MadeLaws.{shortens_refused, open_run}
 use Rattle.shorter.proofs.shorter.Goals as goal
 

@@ -1,31 +1,10 @@
 -- `ask::second_call` meets its contract: the answer by what the call with the literal false ends with. Assumes nothing.
-use mathlib.Core.Path.{◌≡◌, refl, ◌∙◌, ap}
-use native.Mathlib.Omega.{arith}
+use mathlib.Core.Path.{◌≡◌, ◌∙◌, ap}
 use Rattle.rules.specs.Meaning.{clauses}
 use Rattle.rules.specs.Why.{first_marks}
 use lib.ListN.{length}
-use Rattle.reason.proofs.AskLaws.{asked_same, second_marks, first_below, second_false, second_none, second_stopped}
+use Rattle.reason.proofs.AskLaws.{second_marks, second_false, second_none, second_stopped}
 use Rattle.reason.proofs.ask.second_call.Goals as goal
-
-pub mark_first-requires : goal.mark_first-requires
-mark_first-requires c =
-    let p = c.requires in omega (arith, p.1, p.0.asks.clauses_fit, p.0.asks.marks_are)
-
-pub marked_call-end-requires : goal.marked_call-end-requires
-marked_call-end-requires c =
-    let p = c.before.requires in
-    asked_same p.0 refl refl refl c.mark_first.auto.marks
-
-pub visit_all-requires : goal.visit_all-requires
-visit_all-requires c =
-    let all : c.mark_first.new.marks ≡ first_marks (length (clauses c.args.entries.now)) =
-    let p = c.requires in
-    second_marks c.args.asking.count p.2 p.0.asks.marks_are c.mark_first.ensures ∙ ap first_marks p.1 in
-    let k = c.marked_call-end.auto in (
-      asked_same c.requires.0 k.values k.kept k.starts c.mark_first.auto.marks,
-      omega (arith, c.requires.1),
-      rw c.requires.1 (first_below (length (clauses c.args.entries.now)) all),
-    )
 
 pub returns-in-Model : goal.returns-in-Model
 returns-in-Model c =

@@ -1,22 +1,13 @@
 -- `call::marked_call` meets its contract: what was put are the marked clauses. Assumes nothing.
-use mathlib.Core.Path.{refl, sym, ap}
+use mathlib.Core.Path.{refl, ap}
 use mathlib.Core.List.{List, [], ◌∷◌, ◌++◌}
-use lib.Seq.{length-take-le}
 use Rattle.rules.specs.Meaning.{Clause, negated}
-use Rattle.reason.proofs.CallLaws.{ends_same, mark_room, kept_len, over_kept, kept_clauses}
+use Rattle.reason.proofs.CallLaws.{ends_same, kept_len, over_kept, kept_clauses}
 use Rattle.reason.proofs.call.marked_call.Goals as goal
-
-pub put_marked-n-requires : goal.put_marked-n-requires
-put_marked-n-requires c =
-    mark_room c.requires
 
 pub slice_bounds-false_call-end : goal.slice_bounds-false_call-end
 slice_bounds-false_call-end c =
     kept_len c.requires c.put_marked-n.ensures c.put_marked-n.auto.out
-
-pub slice_bounds-false_call-end-2 : goal.slice_bounds-false_call-end-2
-slice_bounds-false_call-end-2 c =
-    sym (length-take-le _ _ (kept_len c.before.requires c.put_marked-n.ensures c.put_marked-n.auto.out))
 
 pub false_call-requires : goal.false_call-requires
 false_call-requires c =

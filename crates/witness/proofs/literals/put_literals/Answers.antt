@@ -11,7 +11,7 @@ use Rattle.rules.specs.Run.{literal_at}
 use Rattle.rules.proofs.BitLaws.{to_z-of_z_at}
 use Rattle.rules.proofs.ListLaws.{get_d_default}
 use Rattle.rules.proofs.WitnessTheorems.{length_literals, literal_at_lem}
-use Rattle.buffers.proofs.FillLaws.{filled_start, filled_step, filled_done}
+use Rattle.buffers.proofs.FillLaws.{filled_start, filled_step}
 use Rattle.formula.proofs.SignedLaws.{fits_of_var}
 use Rattle.witness.proofs.AnswerLaws.{var_of-literal}
 use Rattle.witness.proofs.literals.put_literals.Goals as goal
@@ -20,39 +20,18 @@ pub loop-i-init : goal.loop-i-init
 loop-i-init c =
     (refl, filled_start _ _ (sym (length_literals 0 c.args.model.now ∙ c.requires.len)))
 
-pub bounds-model-i : goal.bounds-model-i
-bounds-model-i c =
-    omega (arith, c.loop-i.invariant.0, c.requires.len)
-
-pub true_literal-l-requires : goal.true_literal-l-requires
-true_literal-l-requires c =
-    (omega arith, omega (arith, c.loop-i-test.true, c.loop-i.invariant.0, c.requires.vars_fit))
-
-pub loop-i-smaller : goal.loop-i-smaller
-loop-i-smaller c =
-    simp length-set (omega arith)
-
 pub loop-i-preserved : goal.loop-i-preserved
 loop-i-preserved c =
-    let l = c.true_literal-l in
+    let l = c.true_literal in
     let m = c.args.model.now in
     let i = c.loop-i.i in
-    let h = c.loop-i-test.true in
     let inside : i < length m = omega (arith, c.loop-i.invariant.0, c.requires.len) in
     let e : l.result.0 ≡ literal_at i (get_or m i 0) = l.ensures ∙ ap (λ (n : ℕ). literal_at (pred n) (get_or m i 0)) (add-one i) in
     let small : var_of l.result.0 < 2 ^ 31 =
     rw e (omega (arith, var_of-literal i (get_or m i 0), c.loop-i.invariant.0, c.requires.vars_fit)) in
     rw (to_z-of_z_at l.result.0 (fits_of_var l.result.0 small)) (
       length-set c.loop-i.out i _ ∙ c.loop-i.invariant.0,
-      filled_step (pos 0) _ c.loop-i.invariant.1 h
+      filled_step (pos 0) _ c.loop-i.invariant.1 (omega (arith, c.loop-i.invariant.0))
           (literal_at_lem 0 m i (pos 0) inside ∙ ap (λ (n : ℕ). literal_at n (get_or m i 1)) (zero-add i) ∙
           ap (literal_at i) (get_d_default m i 1 0 inside) ∙ sym e),
     )
-
-pub shape_of-out : goal.shape_of-out
-shape_of-out c =
-    c.loop-i.invariant.0
-
-pub returns : goal.returns
-returns c =
-    filled_done c.loop-i.invariant.1 c.loop-i-test.false

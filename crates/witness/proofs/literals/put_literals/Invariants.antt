@@ -1,6 +1,5 @@
 -- `literals::put_literals` meets its contract. The invariant of its loop: the front is filled. Assumes nothing.
 use mathlib.Core.Path.{◌≡◌}
-use Prim.Native.Nat.{◌-◌}
 use lib.ListN.{length}
 use Rattle.rules.specs.Witness.{literals_from}
 use Rattle.buffers.proofs.FillLaws.{Filled}
@@ -8,6 +7,3 @@ use Rattle.witness.proofs.literals.put_literals.Given as goal
 
 abbrev pub invariant-loop-i : goal.invariant-loop-i
 invariant-loop-i l = (length l.out ≡ length l.initial.out) × Filled (literals_from 0 l.model) l.i l.out
-
-abbrev pub decreases-loop-i : goal.decreases-loop-i
-decreases-loop-i l = length l.out - l.i
