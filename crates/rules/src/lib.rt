@@ -102,7 +102,7 @@ pub struct Record {
     pub way: Way,
 }
 
-// The answer of a reading, with its place where that is not fixed. Its number and place are read_number and readPlace.
+// The answer of a reading, with its place where that is not fixed. Its number and place are read_number and read_place.
 #[derive(Clone, Copy)]
 pub enum ReadAnswer {
     Accepted,
