@@ -18,7 +18,7 @@ use lib.Seq.{take-suc-set, drop-set-lt}
 use mir.Syntax.{w32}
 use mir.Val.{to_z, of_z}
 use borrow.Author.Tests.{ltb-true, lt-ltb, eq-eqb, ne_eqb}
-use Rattle.std.specs.Prelude.{Option, Some, None, Result, Ok, Err}
+use Rattle.std.specs.Prelude.{Some, None, Ok, Err}
 use Rattle.rules.specs.declared.GroupsAnswer.{GroupsAnswer}
 use Rattle.rules.specs.Lists.{count, count_if, is_zero}
 use Rattle.rules.specs.Numbers.{max_vars, max_entries}

@@ -13,7 +13,7 @@ use native.Mathlib.Numerals.{add-one}
 use lib.IntN.{pos}
 use lib.ListN.{length, set, take, length-set}
 use lib.Seq.{take-suc-set, drop-set-lt}
-use Rattle.std.specs.Prelude.{Option, Some, None, Result, Ok, Err}
+use Rattle.std.specs.Prelude.{Ok, Err}
 use Rattle.rules.specs.declared.GroupsAnswer.{GroupsAnswer}
 use Rattle.rules.specs.Lists.{In}
 use Rattle.rules.specs.Numbers.{max_vars}

@@ -22,7 +22,6 @@ use Rattle.rules.specs.declared.GroupsAnswer.{GroupsAnswer}
 use Rattle.rules.specs.Lists.{count, check, first_of, is_zero}
 use Rattle.rules.specs.Numbers.{max_vars, max_clauses}
 use Rattle.rules.specs.Meaning.{var_of}
-use Rattle.texts.specs.Text.{entry_of}
 use Rattle.texts.specs.Groups.{max_groups, min_size, max_size, vars_in}
 use Rattle.texts.specs.GroupsReading.{Part, groups_due, sizes_due, entries_due, is_between, number_rules, refused, judge_end, judge_parts}
 use Rattle.texts.specs.GroupsRefusals.{Between, between, Fits, group_count, clause_count_lem, size, entry}
@@ -31,12 +30,12 @@ use Rattle.texts.proofs.GroupsJudged.{between_sound}
 use Rattle.reader.specs.declared.token.Entry.{Entry}
 use Rattle.reader.specs.Words.{value_of}
 use Rattle.reader.proofs.StepLaws.{var_is}
-use Rattle.std.specs.Prelude.{Option, Some, None, Result, Ok, Err}
+use Rattle.std.specs.Prelude.{Some, None, Ok, Err}
 use Rattle.reader.specs.declared.next.Spot.{Spot}
 use Rattle.groups.specs.declared.step.Due.{Due}
-use Rattle.reader.specs.Next.{bytes_at, Next, Finds, no_token, malformed, number}
+use Rattle.reader.specs.Next.{Finds, no_token, malformed, number}
 use Rattle.groups.specs.Stages.{verdict_of}
-use Rattle.groups.specs.Steps.{due_of, due_rules, DueFits, Step, step_if, Taken, Judges, Steps, Counted, Counts, JudgesCount, CountsAt}
+use Rattle.groups.specs.Steps.{due_of, due_rules, DueFits, Step, Taken, Judges, Steps, Counted, Counts, JudgesCount, CountsAt}
 
 -- ---- what is due
 

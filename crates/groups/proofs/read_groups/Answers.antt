@@ -22,14 +22,6 @@ returns-then-text-gt-MAX_TEXT c =
     c.if-text-gt-MAX_TEXT.true
     c.refused-then-text-gt-MAX_TEXT.result c.refused-then-text-gt-MAX_TEXT.ensures
 
-pub read_text-r-requires : goal.read_text-r-requires
-read_text-r-requires c =
-    record {
-      text_fits = omega (arith, c.if-text-gt-MAX_TEXT.false);
-      room = omega (arith, c.if-entries-lt-MAX_ENTRIES.false);
-      sizes_room = omega (arith, c.if-sizes-lt-MAX_GROUPS.false);
-    }
-
 pub clear-requires : goal.clear-requires
 clear-requires c =
     (omega (arith, stores_entries c.read_text-r.ensures.0), omega (arith, c.read_text-r.auto, c.if-entries-lt-MAX_ENTRIES.false))

@@ -6,7 +6,7 @@ use native.Mathlib.Omega.{arith}
 use lib.ListN.{length}
 use Rattle.texts.specs.Groups.{groups_from}
 use Rattle.texts.specs.Plain.{entries_of}
-use Rattle.groups.proofs.ReadLaws.{own_le, base_low, base_is, list_refused, clauses_refused, clauses_complete, list_finished}
+use Rattle.groups.proofs.ReadLaws.{own_le, base_low, base_is, clauses_complete, list_finished}
 use Rattle.groups.specs.Lists.{finished_of}
 use Rattle.groups.proofs.read_list.Goals as goal
 
@@ -42,12 +42,6 @@ read_clauses-requires c =
 pub overflow_add-own : goal.overflow_add-own
 overflow_add-own c =
     record { fits = omega (arith, own_le c.requires.0 c.clauses_of-own.result c.clauses_of-own.ensures, c.requires.1) }
-
-pub returns-in-Err : goal.returns-in-Err
-returns-in-Err c =
-    list_refused
-    (clauses_refused c.read_clauses.ensures c.in-Err.a c.in-Err.is c.args.sizes.now (sym c.requires.0.vars_are))
-    (c.read_clauses.ensures.rest_is ∙ c.place_groups.ensures.rest_is) c.refused.ensures
 
 pub returns-in-Ok : goal.returns-in-Ok
 returns-in-Ok c =

@@ -2,10 +2,9 @@
 use mathlib.Core.Path.{refl}
 use lib.IntN.{pos}
 use Rattle.texts.specs.GroupsReading.{sizes_due}
-use Rattle.groups.proofs.ReadLaws.{list_refused, stores_of}
 use Rattle.groups.proofs.StepLaws.{counts_says, fits_count}
 use Rattle.groups.specs.Steps.{Taken}
-use Rattle.std.specs.Prelude.{Ok, Err}
+use Rattle.std.specs.Prelude.{Ok}
 use Rattle.groups.proofs.read_rest.Goals as goal
 
 pub read_list-requires : goal.read_list-requires
@@ -17,15 +16,3 @@ read_list-requires c =
       record { small = w.small; vars_are = w.vars_are; vars_fit = w.vars_fit; within = t.within; text_fits = w.text_fits; room = w.room },
       fits_count t.fits,
     )
-
-pub returns-in-Err : goal.returns-in-Err
-returns-in-Err c =
-    let due = sizes_due 0 c.args.sizes.now in
-    list_refused (counts_says (Err c.in-Err.a) c.read_number.ensures c.in-Err.is due refl) refl
-    c.refused.ensures
-
-pub returns-in-Ok : goal.returns-in-Ok
-returns-in-Ok c =
-    let taken : let a = c.args in Taken a.text.now (sizes_due 0 a.sizes.now) a.at c.in-Ok.to (pos c.in-Ok.clauses) =
-    counts_says (Ok (c.in-Ok.to, c.in-Ok.clauses)) c.read_number.ensures c.in-Ok.is (sizes_due 0 c.args.sizes.now) refl in
-    stores_of taken.judged c.read_list.ensures

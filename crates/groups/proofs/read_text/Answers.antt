@@ -2,10 +2,9 @@
 use mathlib.Core.Path.{refl}
 use lib.IntN.{pos}
 use Rattle.texts.specs.GroupsReading.{groups_due}
-use Rattle.groups.proofs.ReadLaws.{list_refused, stores_of, sizes_of_lem, body_refused}
 use Rattle.groups.proofs.StepLaws.{counts_says, fits_groups}
 use Rattle.groups.specs.Steps.{Taken}
-use Rattle.std.specs.Prelude.{Ok, Err}
+use Rattle.std.specs.Prelude.{Ok}
 use Rattle.groups.proofs.read_text.Goals as goal
 
 pub read_body-requires : goal.read_body-requires
@@ -14,15 +13,3 @@ read_body-requires c =
     counts_says (Ok (c.in-Ok.to, c.in-Ok.n)) c.read_number.ensures c.in-Ok.is groups_due refl in
     let t = taken in
     (c.requires, t.within, fits_groups t.fits)
-
-pub returns-in-Err : goal.returns-in-Err
-returns-in-Err c =
-    let judged = counts_says (Err c.in-Err.a) c.read_number.ensures c.in-Err.is groups_due refl in
-    (list_refused judged refl c.refused.ensures, body_refused judged refl)
-
-pub returns-in-Ok : goal.returns-in-Ok
-returns-in-Ok c =
-    let taken : let a = c.args in Taken a.text.now groups_due 0 c.in-Ok.to (pos c.in-Ok.n) =
-    counts_says (Ok (c.in-Ok.to, c.in-Ok.n)) c.read_number.ensures c.in-Ok.is groups_due refl in
-    let t = taken in
-    (stores_of t.judged c.read_body.ensures.0, sizes_of_lem t.judged c.read_body.ensures.1)

@@ -1,38 +1,17 @@
 -- `claims::claim::check_claim` meets its contract: its tree is checked under its negation, which is taken back. Assumes nothing.
 use mathlib.Core.Path.{◌∙◌, ap}
 use Prim.Native.Nat.{ℕ, ◌-◌}
-use native.Mathlib.Omega.{arith}
-use lib.ListN.{length, set, length-set}
+use lib.ListN.{set}
 use Rattle.std.proofs.lemmas.Result.{err_from_is_err_and}
 use Rattle.rules.specs.Meaning.{Values, clauses}
 use Rattle.claims.proofs.TreeLaws.{taken_back}
-use Rattle.claims.proofs.ClaimLaws.{claim_some, claim_within, claim_values, unset_blank, claim_stop, claim_tree}
+use Rattle.claims.proofs.ClaimLaws.{claim_within, claim_values, unset_blank, claim_stop, claim_tree}
 use Rattle.claims.proofs.claim.check_claim.Goals as goal
-
-pub overflow_sub-i : goal.overflow_sub-i
-overflow_sub-i c = claim_some _ _ c.in_ok-claim.ensures
-
-pub bounds-values-i : goal.bounds-values-i
-bounds-values-i c = claim_within _ _ c.in_ok-claim.ensures
-
-pub bounds-values-i-2 : goal.bounds-values-i-2
-bounds-values-i-2 c =
-    let values : Values = c.args.values.now in
-    let index : ℕ = c.in_ok-claim.claim.entry.number - 1 in
-    omega (arith, claim_within _ _ c.in_ok-claim.ensures, ap length c.check_tree-end.ensures.same, length-set values index c.byte_of.result)
 
 pub returns-in_err-claim : goal.returns-in_err-claim
 returns-in_err-claim c =
     let p = err_from_is_err_and c.from_residual.result c.from_residual.ensures.1 in
     rw (p.1, p.2) (claim_stop (clauses c.args.entries.now) c.args.values.now c.in_err-claim.ensures)
-
-pub shape_of-values : goal.shape_of-values
-shape_of-values c =
-    let values : Values = c.args.values.now in
-    let index : ℕ = c.in_ok-claim.claim.entry.number - 1 in
-    ap length
-    (taken_back values c.check_tree-end.new.values index c.byte_of.result
-    (unset_blank values index c.requires.unset (claim_within _ _ c.in_ok-claim.ensures)) c.check_tree-end.ensures.same)
 
 pub returns : goal.returns
 returns c =

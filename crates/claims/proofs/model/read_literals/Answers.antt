@@ -5,12 +5,8 @@ use native.Mathlib.Omega.{arith}
 use lib.ListN.{length, set}
 use lib.Seq.{set-get_or}
 use Rattle.std.proofs.lemmas.Result.{err_from_is_err_and}
-use Rattle.claims.proofs.ModelLaws.{Reading, reading_start, reading_step, reading_stop, reading_done}
+use Rattle.claims.proofs.ModelLaws.{Reading, reading_step, reading_stop, reading_done}
 use Rattle.claims.proofs.model.read_literals.Goals as goal
-
-pub loop-i-init : goal.loop-i-init
-loop-i-init c =
-    reading_start _ _ _
 
 pub returns-in_err-spot : goal.returns-in_err-spot
 returns-in_err-spot c =

@@ -1,15 +1,9 @@
 -- `claims::model::read_model` meets its contract: the count, the literals, and the first clause that has no true literal. Assumes nothing.
-use mathlib.Core.Path.{sym, ◌∙◌, subst}
-use Prim.Native.Nat.{ℕ}
+use mathlib.Core.Path.{sym, ◌∙◌}
 use Rattle.std.proofs.lemmas.Result.{err_from_is_err_and}
 use Rattle.rules.specs.Meaning.{clauses}
-use Rattle.formula.specs.Formula.{Formula}
 use Rattle.claims.proofs.ModelLaws.{none_false, some_false, model_none, model_cut, model_ends, model_fails}
 use Rattle.claims.proofs.model.read_model.Goals as goal
-
-pub first_false-requires : goal.first_false-requires
-first_false-requires c =
-    subst (λ (n : ℕ). Formula n c.args.entries.now c.args.starts.now) (sym c.in_ok-next.ensures.length_is) c.requires
 
 pub returns-in_err-count : goal.returns-in_err-count
 returns-in_err-count c =

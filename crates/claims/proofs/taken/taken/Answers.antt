@@ -1,12 +1,8 @@
 -- `claims::taken::taken` meets its contract: what stands next, unless it is at fault. Assumes nothing.
 use mathlib.Core.Path.{sym, ◌∙◌}
 use Rattle.std.proofs.lemmas.Result.{err_from_is_err_and}
-use Rattle.claims.proofs.TakenLaws.{taken_stop, taken_fault, taken_number, number_sign}
+use Rattle.claims.proofs.TakenLaws.{taken_stop, taken_fault, taken_number}
 use Rattle.claims.proofs.taken.taken.Goals as goal
-
-pub is_faulty-requires : goal.is_faulty-requires
-is_faulty-requires c =
-    number_sign c.in_ok-spot.ensures
 
 pub returns-in_err-spot : goal.returns-in_err-spot
 returns-in_err-spot c =

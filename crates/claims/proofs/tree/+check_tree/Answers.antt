@@ -25,22 +25,11 @@ fewer_again : (values first : Values) (index a b t : ℕ) → value_at values in
 fewer_again values first index a b t unset same e =
     omega (arith, e, falls_set values (set first index (suc b)) index b unset (set-again values first index a (suc b) same))
 
-pub bounds-values-i : goal.bounds-values-i
-bounds-values-i t c = unset_within c.args.values.now c.in-Split.i (split_unset (rw c.in-Split.is at c.in_ok-node.ensures))
-
 pub check_tree-requires : goal.check_tree-requires
 check_tree-requires t c = (
   fewer c.args.values.now c.in-Split.i _ t (split_unset (rw c.in-Split.is at c.in_ok-node.ensures)) c.decreases,
   formula_same c.args.values.now _ c.in-Split.i _ refl c.requires,
 )
-
-pub bounds-values-i-in-Err : goal.bounds-values-i-in-Err
-bounds-values-i-in-Err t c =
-    within c.args.values.now c.check_tree.new.values c.in-Split.i _ (split_unset (rw c.in-Split.is at c.in_ok-node.ensures)) c.check_tree.ensures.same
-
-pub bounds-values-i-in-Ok : goal.bounds-values-i-in-Ok
-bounds-values-i-in-Ok t c =
-    within c.args.values.now c.check_tree.new.values c.in-Split.i _ (split_unset (rw c.in-Split.is at c.in_ok-node.ensures)) c.check_tree.ensures.same
 
 pub check_tree-last-requires : goal.check_tree-last-requires
 check_tree-last-requires t c =
@@ -50,13 +39,6 @@ check_tree-last-requires t c =
       formula_same before _ i _ (set-again before c.check_tree.new.values i _ _ c.check_tree.ensures.same) c.requires,
     )
 
-pub bounds-values-i-in-Ok-2 : goal.bounds-values-i-in-Ok-2
-bounds-values-i-in-Ok-2 t c =
-    let before = c.args.values.now in
-    let i = c.in-Split.i in
-    within before c.check_tree-last.new.values i _ (split_unset (rw c.in-Split.is at c.in_ok-node.ensures))
-    (c.check_tree-last.ensures.same ∙ set-again before c.check_tree.new.values i _ _ c.check_tree.ensures.same)
-
 pub returns-in_err-node : goal.returns-in_err-node
 returns-in_err-node t c =
     let p = err_from_is_err_and c.from_residual.result c.from_residual.ensures.1 in
@@ -65,24 +47,11 @@ returns-in_err-node t c =
 pub returns-in-End : goal.returns-in-End
 returns-in-End t c = record { read = tree_end (rw c.in-End.is at c.in_ok-node.ensures); same = refl }
 
-pub shape_of-values-in-Err : goal.shape_of-values-in-Err
-shape_of-values-in-Err t c =
-    ap length
-    (taken_back c.args.values.now c.check_tree.new.values c.in-Split.i _ (split_unset (rw c.in-Split.is at c.in_ok-node.ensures)) c.check_tree.ensures.same)
-
 pub returns-in-Err : goal.returns-in-Err
 returns-in-Err t c = record {
   read = tree_first (rw c.in-Split.is at c.in_ok-node.ensures) c.in-Err.ensures.read;
   same = taken_back c.args.values.now c.check_tree.new.values c.in-Split.i _ (split_unset (rw c.in-Split.is at c.in_ok-node.ensures)) c.check_tree.ensures.same;
 }
-
-pub shape_of-values-in-Ok : goal.shape_of-values-in-Ok
-shape_of-values-in-Ok t c =
-    let before = c.args.values.now in
-    let i = c.in-Split.i in
-    ap length
-    (taken_back before c.check_tree-last.new.values i _ (split_unset (rw c.in-Split.is at c.in_ok-node.ensures))
-    (c.check_tree-last.ensures.same ∙ set-again before c.check_tree.new.values i _ _ c.check_tree.ensures.same))
 
 pub returns-in-Ok : goal.returns-in-Ok
 returns-in-Ok t c =

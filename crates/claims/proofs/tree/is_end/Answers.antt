@@ -8,12 +8,8 @@ use Rattle.rules.specs.Lists.{all}
 use Rattle.rules.specs.Meaning.{clauses}
 use Rattle.texts.specs.Claims.{is_false}
 use Rattle.formula.proofs.ClauseLaws.{clause_at_formula, length_starts}
-use Rattle.claims.proofs.TreeLaws.{end_zero, end_above, end_named, up_to_number}
+use Rattle.claims.proofs.TreeLaws.{end_above, end_named, up_to_number}
 use Rattle.claims.proofs.tree.is_end.Goals as goal
-
-pub returns-then-n-eq0 : goal.returns-then-n-eq0
-returns-then-n-eq0 c =
-    sym (end_zero (clauses c.args.entries.now) c.args.values.now c.args.n c.if-n-eq0.true)
 
 pub returns-then-starts-n : goal.returns-then-starts-n
 returns-then-starts-n c =

@@ -2,12 +2,8 @@
 use mathlib.Core.Path.{sym, ◌∙◌}
 use Rattle.std.proofs.lemmas.Result.{err_from_is_err_and}
 use Rattle.rules.specs.Meaning.{clauses}
-use Rattle.claims.proofs.TreeLaws.{stop_node, number_some, split_node, split_fault, end_node, end_fault}
+use Rattle.claims.proofs.TreeLaws.{stop_node, split_node, split_fault, end_node, end_fault}
 use Rattle.claims.proofs.tree.node_at.Goals as goal
-
-pub overflow_sub-i : goal.overflow_sub-i
-overflow_sub-i c =
-    number_some (clauses c.args.entries.now) c.args.values.now c.args.at _ c.in_ok-spot.ensures c.if-entry.true
 
 pub returns-in_err-spot : goal.returns-in_err-spot
 returns-in_err-spot c =

@@ -3,12 +3,8 @@ use Prim.Native.Nat.{◌≤◌}
 use native.Mathlib.Omega.{arith}
 use lib.ListN.{get_or}
 use Rattle.texts.specs.Groups.{max_size}
-use Rattle.groups.proofs.CountLaws.{counting_start, counting_step, counting_done, size_small, pair_count_le}
+use Rattle.groups.proofs.CountLaws.{counting_step, counting_done, size_small, pair_count_le}
 use Rattle.groups.proofs.count.clauses_of.Goals as goal
-
-pub loop-size-init : goal.loop-size-init
-loop-size-init c =
-    counting_start _
 
 pub pairs_of-requires : goal.pairs_of-requires
 pairs_of-requires c =

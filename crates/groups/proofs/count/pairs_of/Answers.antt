@@ -1,6 +1,5 @@
 -- `groups::count::pairs_of` meets its contract. Assumes nothing.
 use native.Mathlib.Omega.{arith}
-use native.Mathlib.Numerals.{add-one}
 use Rattle.groups.proofs.CountLaws.{pair_count_le}
 use Rattle.groups.proofs.count.pairs_of.Goals as goal
 
@@ -8,7 +7,3 @@ pub overflow_add-pairs : goal.overflow_add-pairs
 overflow_add-pairs c =
     let l = c.loop-left in
     record { fits = omega (arith, l.invariant, c.loop-left-test.true, c.requires, pair_count_le l.left (omega (arith, c.loop-left-test.true, c.requires))) }
-
-pub loop-left-preserved : goal.loop-left-preserved
-loop-left-preserved c =
-    rw add-one (omega (arith, c.loop-left.invariant))

@@ -1,25 +1,12 @@
 -- `groups::expand::put_groups` meets its contract. Assumes nothing.
-use mathlib.Core.Path.{ap}
-use mathlib.Core.List.{List}
-use Prim.Native.Nat.{ℕ, ◌+◌, ◌≤◌}
+use Prim.Native.Nat.{◌+◌, ◌≤◌}
 use native.Mathlib.Omega.{arith}
-use lib.ListN.{get_or, drop, drop_of_length-le}
+use lib.ListN.{get_or, drop}
 use Rattle.rules.specs.Numbers.{max_vars}
 use Rattle.texts.specs.Plain.{entries_of}
 use Rattle.texts.specs.Groups.{group_clauses, groups_from}
-use Rattle.groups.proofs.ExpandLaws.{putting_start, putting_fits, putting_step, putting_done, groups_later, sizes-next}
+use Rattle.groups.proofs.ExpandLaws.{putting_fits, putting_step, groups_later, sizes-next}
 use Rattle.groups.proofs.expand.put_groups.Goals as goal
-
-pub loop-size-init : goal.loop-size-init
-loop-size-init c =
-    (putting_start _ _ _, omega arith)
-
-pub overflow_cast-n : goal.overflow_cast-n
-overflow_cast-n c =
-    let small : c.loop-size.first + get_or c.args.sizes.now c.loop-size.size-index 0 ≤ max_vars =
-    let l = c.loop-size in
-    omega (arith, c.requires.1, l.invariant.1, sizes-next c.args.sizes.now l.size-index c.loop-size-test.true) in
-    let r = small in record { fits = omega (arith, r) }
 
 pub put_group-next-requires : goal.put_group-next-requires
 put_group-next-requires c =
@@ -33,13 +20,6 @@ put_group-next-requires c =
       small,
     )
 
-pub overflow_add-first : goal.overflow_add-first
-overflow_add-first c =
-    let small : c.loop-size.first + get_or c.args.sizes.now c.loop-size.size-index 0 ≤ max_vars =
-    let l = c.loop-size in
-    omega (arith, c.requires.1, l.invariant.1, sizes-next c.args.sizes.now l.size-index c.loop-size-test.true) in
-    let r = small in record { fits = omega (arith, r) }
-
 pub loop-size-preserved : goal.loop-size-preserved
 loop-size-preserved c =
     let l = c.loop-size in
@@ -49,13 +29,3 @@ loop-size-preserved c =
           c.put_group-next.ensures,
       omega (arith, l.invariant.1, sizes-next sizes l.size-index c.loop-size-test.true),
     )
-
-pub shape_of-out : goal.shape_of-out
-shape_of-out c =
-    c.loop-size.invariant.0.len
-
-pub returns : goal.returns
-returns c =
-    let l = c.loop-size in
-    let sizes = c.args.sizes.now in
-    putting_done l.invariant.0 (ap (λ (ns : List ℕ). entries_of (groups_from l.first ns)) (drop_of_length-le sizes c.loop-size-test.false))

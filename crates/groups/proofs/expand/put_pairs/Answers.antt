@@ -1,16 +1,12 @@
 -- `groups::expand::put_pairs` meets its contract. Assumes nothing.
-use mathlib.Core.Path.{◌≡◌, refl, ap}
-use Prim.Native.Nat.{ℕ, suc, ◌+◌, ◌-◌}
+use mathlib.Core.Path.{◌≡◌}
+use Prim.Native.Nat.{suc, ◌+◌, ◌-◌}
 use native.Mathlib.Omega.{arith}
 use native.Mathlib.Numerals.{add-one}
 use Rattle.texts.specs.Plain.{entries_of}
 use Rattle.texts.specs.Groups.{pairs_with, pairs_from}
-use Rattle.groups.proofs.ExpandLaws.{putting_start, putting_fits, putting_step, putting_done, pairs_later}
+use Rattle.groups.proofs.ExpandLaws.{putting_fits, putting_step, pairs_later}
 use Rattle.groups.proofs.expand.put_pairs.Goals as goal
-
-pub loop-low-init : goal.loop-low-init
-loop-low-init c =
-    (c.args.n, putting_start _ _ _, refl)
 
 pub put_pairs_with-next-requires : goal.put_pairs_with-next-requires
 put_pairs_with-next-requires c =
@@ -33,13 +29,3 @@ loop-low-preserved c =
           (entries_of (pairs_from (suc l.low) (l.invariant.0 - 1))) (pairs_later l.low l.invariant.0 (omega (arith, l.invariant.2, c.loop-low-test.true))) stored),
       omega (arith, l.invariant.2, c.loop-low-test.true),
     )
-
-pub shape_of-out : goal.shape_of-out
-shape_of-out c =
-    c.loop-low.invariant.1.len
-
-pub returns : goal.returns
-returns c =
-    let l = c.loop-low in
-    let none : l.invariant.0 ≡ 0 = omega (arith, l.invariant.2, c.loop-low-test.false) in
-    putting_done l.invariant.1 (ap (λ (k : ℕ). entries_of (pairs_from l.low k)) none)

