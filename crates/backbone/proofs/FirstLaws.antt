@@ -59,8 +59,8 @@ copied_whole xs ys e f =
     ap (λ (ts : List ℕ). xs ++ ts) (drop_of_length-le ys {i = length xs} (omega (arith, e))) ∙ append-nil xs
 
 -- the board of as many variables
-pub kept_len : {n m : ℕ} {es : List ℤ} {starts lists holders marks : List ℕ} {values : Values} {keys hot trail : List ℕ} → n ≡ m
-    → BoardKept n es starts lists holders marks values keys hot trail → BoardKept m es starts lists holders marks values keys hot trail
+pub kept_len : {n m : ℕ} {es : List ℤ} {lists holders marks : List ℕ} {values : Values} {keys hot trail : List ℕ} → n ≡ m
+    → BoardKept n es lists holders marks values keys hot trail → BoardKept m es lists holders marks values keys hot trail
 kept_len e k = rw (← e) k
 
 -- ---- before the first call

@@ -1,21 +1,23 @@
 // The first call of a run (docs/RULES.md, "Run"), on the formula alone, and what follows from it.
-ghost use Rattle.std.specs.Prelude.{◌≡◌, ℕ, get_or, length};
+ghost use Rattle.std.specs.Prelude.{◌≡◌, length};
 ghost use Rattle.search.specs.Rooms.{BoardKept};
 ghost use Rattle.rules.specs.Held.{list_with};
 ghost use Rattle.formula.specs.Formula.{Formula};
 ghost use Rattle.backbone.specs.First.{FirstCalled, started, FirstFound, CallsBegin, RunBegins, ListDone};
 ghost use Rattle.backbone.specs.First.{HintsBegin, HintsDone, ListTaken};
 
+use board::parts::Board;
 use buffers::clear::{clear_bytes, clear_numbers};
 use buffers::copy::copy_first;
 use calls::after::{Made, Tally, after_model, row_only};
 use calls::next::{Limits, run_calls};
 use formula::starts::find_starts;
+use formula::view::View;
 use held::put_list;
 use rules::{Outcome, Report};
 use search::call::CallEnd;
 use search::meter::Meter;
-use search::room::{MAX_BLOCKS, MAX_CODES, MAX_PARTS, MAX_TRAIL, begin_in};
+use search::room::{MAX_BLOCKS, MAX_CODES, MAX_PARTS, MAX_TRAIL, Room, begin_in};
 use search::whole::{call_in, whole_call};
 use steps::hint::put_hints;
 use steps::records::put_records;
@@ -32,58 +34,38 @@ pub fn first_call(entries: &[i32], starts: &[u16], values: &mut [u8], budget: u3
     whole_call(
         entries,
         starts,
-        &entries[..0],
+        &[],
         total,
         values,
-        Meter {
-            budget: budget,
-            spent: 0,
-        },
+        Meter { budget, spent: 0 },
     )
 }
 
 // The same over the board of the run, which is kept.
 // Rules out: a call from the values that were there; a constraint.
 // Required of: all_calls, behind the beginning.
-fn first_in(
-    entries: &[i32],
-    starts: &[u16],
-    lists: &[u16; MAX_PARTS],
-    holders: &[u16; rules::MAX_LIST],
-    marks: &mut [u8; MAX_CODES],
-    shown: &mut [u8; rules::MAX_VARS as usize],
-    keys: &mut [u32; rules::MAX_STARTS],
-    hot: &mut [u16; MAX_BLOCKS],
-    trail: &mut [u16; MAX_TRAIL],
+fn first_in<'a>(
+    entries: &'a [i32],
+    starts: &'a [u16],
+    room: &mut Room,
     values: &mut [u8],
     budget: u32,
 ) -> CallEnd
     requires { Formula (length values.old) entries.now starts.now
-        × BoardKept (length values.old) entries.now starts.now lists.now holders.now marks.old shown.old keys.old hot.old trail.old }
+        × BoardKept (length values.old) entries.now room.old.lists.now room.old.holders.now room.old.marks.now
+        room.old.board.values.now room.old.board.keys.now room.old.board.hot.now room.old.board.trail.now }
     ensures { FirstCalled entries.now (length values.old) budget result values.new
-        × BoardKept (length values.old) entries.now starts.now
-        lists.now holders.now marks.new shown.new keys.new hot.new trail.new }
+        × BoardKept (length values.old) entries.now room.new.lists.now room.new.holders.now room.new.marks.now
+        room.new.board.values.now room.new.board.keys.now room.new.board.hot.now room.new.board.trail.now }
 {
     clear_bytes(values);
     let total = (starts.len() - 1) as u32;
-    call_in(
+    let view = View {
         entries,
         starts,
-        &entries[..0],
-        lists,
-        holders,
-        marks,
-        shown,
-        keys,
-        hot,
-        trail,
-        total,
-        values,
-        Meter {
-            budget: budget,
-            spent: 0,
-        },
-    )
+        constraint: &[],
+    };
+    call_in(&view, room, total, values, Meter { budget, spent: 0 })
 }
 
 // Before the first call: every variable is a candidate, and nothing is counted.
@@ -112,36 +94,27 @@ fn settle(
     calls: &mut [u32],
     ways: &mut [u8],
     log: &mut [u32],
-    lists: &[u16; MAX_PARTS],
-    holders: &[u16; rules::MAX_LIST],
-    marks: &mut [u8; MAX_CODES],
-    shown: &mut [u8; rules::MAX_VARS as usize],
-    keys: &mut [u32; rules::MAX_STARTS],
-    hot: &mut [u16; MAX_BLOCKS],
-    trail: &mut [u16; MAX_TRAIL],
+    room: &mut Room,
     spent: u32,
     limits: Limits,
 ) -> Report
     requires { FirstFound entries.now starts.now values.old first.old status.old calls.old ways.old log.old spent limits
-        × BoardKept (length status.old) entries.now starts.now lists.now holders.now marks.old shown.old keys.old hot.old trail.old }
+        × BoardKept (length status.old) entries.now room.old.lists.now room.old.holders.now room.old.marks.now
+        room.old.board.values.now room.old.board.keys.now room.old.board.hot.now room.old.board.trail.now }
     ensures { ListDone entries.now (length status.old) limits first.old
         result first.new status.new calls.new ways.new log.new }
 {
     copy_first(values, first, values.len());
     let t = started(values.len() as u32);
-    let made = Made {
-        chunk: 0,
-        spent: spent,
-    };
+    let made = Made { chunk: 0, spent };
     let next = after_model(entries, starts, first, values, status, log, t, made);
     put_records(first, values, status, calls, ways, next.calls);
     run_calls(
-        entries, starts, first, status, calls, ways, log, lists, holders, marks, shown, keys, hot,
-        trail, values, next, limits,
+        entries, starts, first, status, calls, ways, log, room, values, next, limits,
     )
 }
 
-// All calls, over a board that is begun once: a first model is settled by the calls that follow; anything else is one row.
+// All calls, over a board of the list: a first model is settled by the calls that follow; anything else is one row.
 // Rules out: going on where there is no model; statuses marked before there is one.
 // Required of: room_for_values, with all variables open and no row.
 fn all_calls(
@@ -153,62 +126,29 @@ fn all_calls(
     calls: &mut [u32],
     ways: &mut [u8],
     log: &mut [u32],
-    lists: &mut [u16; MAX_PARTS],
-    holders: &mut [u16; rules::MAX_LIST],
-    marks: &mut [u8; MAX_CODES],
-    shown: &mut [u8; rules::MAX_VARS as usize],
-    keys: &mut [u32; rules::MAX_STARTS],
-    hot: &mut [u16; MAX_BLOCKS],
-    trail: &mut [u16; MAX_TRAIL],
+    room: &mut Room,
     limits: Limits,
 ) -> Report
     requires { CallsBegin entries.now starts.now values.old first.old status.old calls.old ways.old log.old limits
-        × ((b : ℕ) → get_or hot.old b 0 ≡ 0) }
+        × BoardKept (length status.old) entries.now room.old.lists.now room.old.holders.now room.old.marks.now
+        room.old.board.values.now room.old.board.keys.now room.old.board.hot.now room.old.board.trail.now }
     ensures { ListDone entries.now (length status.old) limits first.old
         result first.new status.new calls.new ways.new log.new }
 {
-    begin_in(
-        entries,
-        starts,
-        lists,
-        holders,
-        marks,
-        shown,
-        keys,
-        hot,
-        trail,
-        values.len(),
-    );
-    let end = first_in(
-        entries,
-        starts,
-        lists,
-        holders,
-        marks,
-        shown,
-        keys,
-        hot,
-        trail,
-        values,
-        limits.budget,
-    );
+    let end = first_in(entries, starts, room, values, limits.budget);
     let meter = end.meter;
     let spent = meter.spent;
     let outcome = end.outcome;
     if let Outcome::Model = outcome {
         return settle(
-            entries, starts, values, first, status, calls, ways, log, lists, holders, marks, shown,
-            keys, hot, trail, spent, limits,
+            entries, starts, values, first, status, calls, ways, log, room, spent, limits,
         );
     }
     row_only(
         log,
         started(status.len() as u32),
         outcome,
-        Made {
-            chunk: 0,
-            spent: spent,
-        },
+        Made { chunk: 0, spent },
     )
 }
 
@@ -238,6 +178,30 @@ fn room_for_values(
     let mut keys = [0u32; rules::MAX_STARTS];
     let mut hot = [0u16; MAX_BLOCKS];
     let mut trail = [0u16; MAX_TRAIL];
+    begin_in(
+        entries,
+        starts,
+        &mut lists,
+        &mut holders,
+        &mut marks,
+        &mut shown,
+        &mut keys,
+        &mut hot,
+        &mut trail,
+        n,
+    );
+    let board = Board {
+        values: &mut shown[..n],
+        keys: &mut keys[..starts.len()],
+        hot: &mut hot,
+        trail: &mut trail,
+    };
+    let mut room = Room {
+        lists: &lists,
+        holders: &holders,
+        marks: &mut marks,
+        board,
+    };
     all_calls(
         entries,
         starts,
@@ -247,13 +211,7 @@ fn room_for_values(
         calls,
         ways,
         log,
-        &mut lists,
-        &mut holders,
-        &mut marks,
-        &mut shown,
-        &mut keys,
-        &mut hot,
-        &mut trail,
+        &mut room,
         limits,
     )
 }

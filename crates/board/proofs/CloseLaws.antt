@@ -22,7 +22,8 @@ use Rattle.rules.proofs.RoundsLaws.{rounds-next}
 use Rattle.formula.specs.Starts.{clauses_with, call_clauses}
 use Rattle.std.specs.Prelude.{Option, Some, None}
 use Rattle.board.specs.declared.close.Closing.TheVariants.{Clash, Closed}
-use Rattle.board.specs.Boards.{Shows}
+use Rattle.board.specs.Boards.{SameRoom, Shows}
+use Rattle.board.specs.declared.parts.Board.{Board}
 use Rattle.board.specs.Trails.{Leads}
 use Rattle.board.specs.Closings.{BoardOver, round_of, RoundDone, CloseDone}
 use Rattle.board.proofs.TrailLaws.{leads_refl, leads_trans}
@@ -111,3 +112,12 @@ module _ {es : List ℤ} {starts : List ℕ} {con : Clause} {lists holders marks
             same_hot = q ∙ w.same_hot;
             same_trail = s ∙ w.same_trail;
           }
+
+-- ---- what is lent keeps its length
+
+pub closings_kept : {es : List ℤ} {con : Clause} {lists holders marks : List ℕ} {before now after : Board} {total n : ℕ}
+    → Closings es con lists holders marks before.values.now before.keys.now before.hot.now before.trail.now total n
+    now.values.now now.keys.now now.hot.now now.trail.now
+    → SameRoom now after → SameRoom before after
+closings_kept w s =
+    record { values = s.values ∙ w.len; keys = s.keys ∙ w.same_keys; hot = s.hot ∙ w.same_hot; trail = s.trail ∙ w.same_trail }

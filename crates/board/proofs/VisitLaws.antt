@@ -31,7 +31,8 @@ use Rattle.std.specs.Prelude.{Some, None}
 use Rattle.formula.proofs.ClauseLaws.{length-call_clauses, get_d_call_clauses}
 use Rattle.board.specs.Keys.{key_of}
 use Rattle.board.specs.Blocks.{NextHot}
-use Rattle.board.specs.Boards.{Shows, Settable, SetDone}
+use Rattle.board.specs.Boards.{SameRoom, Shows, Settable, SetDone}
+use Rattle.board.specs.declared.parts.Board.{Board}
 use Rattle.board.specs.Trails.{Leads}
 use Rattle.board.specs.Closings.{BoardOver}
 use Rattle.board.proofs.HotLaws.{hot_false, hot_unit, hot_some, get_d_keys, rounding_cold}
@@ -150,3 +151,11 @@ module _ {es : List ℤ} {starts : List ℕ} {con : Clause} {lists holders marks
 
     pub visiting_done : total ≤ n → round (call_clauses es con total) (under_way from 0) ≡ under_way vs k
     visiting_done h = rounding_done (call_clauses es con total) from n vs k (omega (arith, length_call)) w.rounding
+
+-- ---- what is lent keeps its length
+
+pub visiting_kept : {es : List ℤ} {con : Clause} {lists holders marks : List ℕ} {before after : Board} {total n k : ℕ}
+    → Visiting es con lists holders marks before.values.now before.keys.now before.hot.now before.trail.now total n
+    after.values.now k after.keys.now after.hot.now after.trail.now
+    → SameRoom before after
+visiting_kept w = record { values = w.rounding.len; keys = w.same_keys; hot = w.same_hot; trail = w.same_trail }

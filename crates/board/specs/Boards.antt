@@ -8,6 +8,7 @@ use Rattle.formula.specs.Clauses.{ClauseUpTo}
 use Rattle.board.specs.Keys.{key_of}
 use Rattle.board.specs.Holders.{code_of, lit_of, Indexed}
 use Rattle.board.specs.Blocks.{HotBlocks}
+use Rattle.board.specs.declared.parts.Board.{Board}
 
 -- clauses over the variables 1 to n
 pub record Small (n : ℕ) (F : List Clause) : Type 0 where
@@ -43,6 +44,14 @@ pub record Shows (F : List Clause) (lists holders marks : List ℕ) (vs : Values
   pub hot_are : HotBlocks keys hot
   pub counted : trail_len trail + unsets vs ≡ length vs
   pub room : length vs < length trail
+
+-- ---- the parts of a board that is lent keep their lengths
+
+pub record SameRoom (before after : Board) : Type 0 where
+  pub values : length after.values.now ≡ length before.values.now
+  pub keys : length after.keys.now ≡ length before.keys.now
+  pub hot : length after.hot.now ≡ length before.hot.now
+  pub trail : length after.trail.now ≡ length before.trail.now
 
 -- ---- setting a literal
 

@@ -4,6 +4,7 @@ ghost use Rattle.board.specs.Begins.{BeginAsked, Begun};
 
 use crate::chain::build_index;
 use crate::first::first_board;
+use crate::parts::Index;
 use buffers::clear::clear_bytes;
 
 // Makes the index of the entry list's `count` clauses, and the board that shows no value. The heads and the hot blocks are blank before.
@@ -31,5 +32,10 @@ pub fn begin(
     let vars = values.len();
     build_index(entries, heads, nexts, owners, lists, holders, vars, count);
     clear_bytes(marks);
-    first_board(lists, holders, marks, values, keys, hot, trail);
+    let index = Index {
+        lists,
+        holders,
+        marks,
+    };
+    first_board(&index, values, keys, hot, trail);
 }

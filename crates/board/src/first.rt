@@ -4,6 +4,7 @@ ghost use Rattle.board.specs.Blocks.{HotBlocks};
 ghost use Rattle.board.specs.Firsts.{Blocks, CountAsked, Counted, FirstAsked, FirstDone};
 
 use crate::keys::change_at;
+use crate::parts::Index;
 use buffers::clear::{clear_bytes, clear_numbers};
 
 // The hot blocks of `count` clauses with key 0, all of which are hot.
@@ -13,32 +14,20 @@ fn all_hot(hot: &mut [u16], count: usize)
     requires { Blocks count hot.old }
     ensures { HotBlocks (replicate count 0) hot.new }
 {
-    let mut i = 0;
-    while i < count {
+    for i in 0..count {
         hot[i / 32] += 1;
-        i += 1;
     }
 }
 
 // Counts the distinct literals of each clause: for each literal one more at every clause that holds it.
 // Rules out: a literal counted for each of its places; a clause that is passed over.
 // Required of: first_board, from keys that are all 0.
-fn count_all(
-    lists: &[u16],
-    holders: &[u16],
-    marks: &[u8],
-    keys: &mut [u32],
-    hot: &mut [u16],
-    vars: usize,
-)
-    requires { CountAsked vars lists.now holders.now marks.now keys.old hot.old }
-    ensures { Counted vars lists.now holders.now marks.now keys.old keys.new hot.new }
+fn count_all(index: &Index, keys: &mut [u32], hot: &mut [u16], vars: usize)
+    requires { CountAsked vars index.now.lists.now index.now.holders.now index.now.marks.now keys.old hot.old }
+    ensures { Counted vars index.now.lists.now index.now.holders.now index.now.marks.now keys.old keys.new hot.new }
 {
-    let codes = 2 * vars;
-    let mut k = 0;
-    while k < codes {
-        change_at(lists, holders, marks, keys, hot, k, 1, 0);
-        k += 1;
+    for k in 0..2 * vars {
+        change_at(index, keys, hot, k, 1, 0);
     }
 }
 
@@ -46,21 +35,21 @@ fn count_all(
 // Rules out: keys of the values that were there; a trail that holds something.
 // Required of: begin::begin, with the index of who holds a literal.
 pub fn first_board(
-    lists: &[u16],
-    holders: &[u16],
-    marks: &[u8],
+    index: &Index,
     values: &mut [u8],
     keys: &mut [u32],
     hot: &mut [u16],
     trail: &mut [u16],
 )
-    requires { FirstAsked lists.now holders.now marks.now values.old keys.old hot.old trail.old }
-    ensures { FirstDone lists.now holders.now marks.now values.old keys.old
+    requires { FirstAsked index.now.lists.now index.now.holders.now index.now.marks.now
+        values.old keys.old hot.old trail.old }
+    ensures { FirstDone index.now.lists.now index.now.holders.now index.now.marks.now
+        values.old keys.old
         values.new keys.new hot.new trail.new }
 {
     clear_bytes(values);
     clear_numbers(keys);
     all_hot(hot, keys.len());
-    count_all(lists, holders, marks, keys, hot, values.len());
+    count_all(index, keys, hot, values.len());
     trail[0] = 0;
 }

@@ -4,6 +4,8 @@ ghost use Rattle.std.specs.Prelude.{◌≡◌, ◌<◌, ◌-◌, length, set};
 ghost use Rattle.board.specs.Holders.{ChangesAsked, ChangeAsked, Changed, holders_at};
 ghost use Rattle.board.specs.Blocks.{HotBlocks};
 
+use crate::parts::Index;
+
 // Gives a clause a new key.
 // Rules out: a hot clause that its block does not count; a block that counts a clause twice.
 // Required of: change_all, for the clauses of a list; change_at and constraint::renew, for the constraint.
@@ -41,24 +43,15 @@ pub fn change_all(clauses: &[u16], keys: &mut [u32], hot: &mut [u16], add: u32, 
 // The same at each clause that holds the literal with number k, and at the constraint, whose key is the last one, if it does.
 // Rules out: the constraint forgotten; the list of the negation.
 // Required of: literal::set_literal and literal::unset_last, by set_asks and unset_asks; first::count_all.
-pub fn change_at(
-    lists: &[u16],
-    holders: &[u16],
-    marks: &[u8],
-    keys: &mut [u32],
-    hot: &mut [u16],
-    k: usize,
-    add: u32,
-    less: u32,
-)
-    requires { ChangeAsked add less k lists.now holders.now marks.now keys.old hot.old }
-    ensures { Changed add less (holders_at lists.now holders.now marks.now (length keys.old - 1) k)
+pub fn change_at(index: &Index, keys: &mut [u32], hot: &mut [u16], k: usize, add: u32, less: u32)
+    requires { ChangeAsked add less k index.now.lists.now index.now.holders.now index.now.marks.now keys.old hot.old }
+    ensures { Changed add less (holders_at index.now.lists.now index.now.holders.now index.now.marks.now (length keys.old - 1) k)
         keys.old keys.new hot.new }
 {
-    let from = lists[k] as usize;
-    let to = lists[k + 1] as usize;
-    change_all(&holders[from..to], keys, hot, add, less);
-    if marks[k] == 1 {
+    let from = index.lists[k] as usize;
+    let to = index.lists[k + 1] as usize;
+    change_all(&index.holders[from..to], keys, hot, add, less);
+    if index.marks[k] == 1 {
         let last = keys.len() - 1;
         let key = keys[last] + add - less;
         put_key(keys, hot, last, key);

@@ -12,6 +12,7 @@ pub mod flip;
 pub mod hot;
 pub mod keys;
 pub mod literal;
+pub mod parts;
 pub mod round;
 pub mod show;
 pub mod trail;

@@ -4,10 +4,11 @@ ghost use Rattle.rules.specs.Numbers.{max_vars};
 ghost use Rattle.rules.specs.Meaning.{LitUpTo, assign};
 ghost use Rattle.rules.specs.Run.{literal_at};
 ghost use Rattle.formula.specs.Literals.{byte_of};
-ghost use Rattle.board.specs.Boards.{SetAsked, SetDone, UnsetAsked, UnsetDone};
+ghost use Rattle.board.specs.Boards.{SameRoom, SetAsked, SetDone, UnsetAsked, UnsetDone};
 
 use crate::code::{code_of, other_code};
 use crate::keys::change_at;
+use crate::parts::{Board, Index};
 use crate::trail::push;
 use formula::lit::{negated, sign, var_of};
 use formula::value::{byte_of, index_of};
@@ -39,49 +40,36 @@ pub fn make_true(values: &mut [u8], l: Lit)
 // unset one less. It goes on the trail.
 // Rules out: the holders of the negation forgotten; a literal set and not on the trail.
 // Required of: round::round, for the literal of a unit; show::show_one and search::call::try_value, for an unset variable.
-pub fn set_literal(
-    lists: &[u16],
-    holders: &[u16],
-    marks: &[u8],
-    values: &mut [u8],
-    keys: &mut [u32],
-    hot: &mut [u16],
-    trail: &mut [u16],
-    l: Lit,
-)
-    requires { SetAsked lists.now holders.now marks.now values.old keys.old hot.old trail.old l.0 }
-    ensures { SetDone lists.now holders.now marks.now
-        values.old keys.old hot.old trail.old l.0
-        values.new keys.new hot.new trail.new }
+pub fn set_literal(index: &Index, board: &mut Board, l: Lit)
+    requires { SetAsked index.now.lists.now index.now.holders.now index.now.marks.now
+        board.old.values.now board.old.keys.now board.old.hot.now board.old.trail.now l.0 }
+    ensures done { SetDone index.now.lists.now index.now.holders.now index.now.marks.now
+        board.old.values.now board.old.keys.now board.old.hot.now board.old.trail.now l.0
+        board.new.values.now board.new.keys.now board.new.hot.now board.new.trail.now }
+    ensures same { SameRoom board.old board.new }
 {
     let k = code_of(l);
-    make_true(values, l);
-    change_at(lists, holders, marks, keys, hot, k, 65535, 0);
-    change_at(lists, holders, marks, keys, hot, other_code(k), 0, 1);
-    push(trail, k);
+    make_true(board.values, l);
+    change_at(index, board.keys, board.hot, k, 65535, 0);
+    change_at(index, board.keys, board.hot, other_code(k), 0, 1);
+    push(board.trail, k);
 }
 
 // Takes the value of the last literal on the trail away, and the literal off the trail.
 // Rules out: the value left; the holders of the negation forgotten.
 // Required of: trail::undo, for a trail that leads somewhere.
-pub fn unset_last(
-    lists: &[u16],
-    holders: &[u16],
-    marks: &[u8],
-    values: &mut [u8],
-    keys: &mut [u32],
-    hot: &mut [u16],
-    trail: &mut [u16],
-)
-    requires { UnsetAsked lists.now holders.now marks.now values.old keys.old hot.old trail.old }
-    ensures { UnsetDone lists.now holders.now marks.now
-        values.old keys.old hot.old trail.old
-        values.new keys.new hot.new trail.new }
+pub fn unset_last(index: &Index, board: &mut Board)
+    requires { UnsetAsked index.now.lists.now index.now.holders.now index.now.marks.now
+        board.old.values.now board.old.keys.now board.old.hot.now board.old.trail.now }
+    ensures done { UnsetDone index.now.lists.now index.now.holders.now index.now.marks.now
+        board.old.values.now board.old.keys.now board.old.hot.now board.old.trail.now
+        board.new.values.now board.new.keys.now board.new.hot.now board.new.trail.now }
+    ensures same { SameRoom board.old board.new }
 {
-    let n = trail[0];
-    let k = trail[n as usize] as usize;
-    trail[0] = n - 1;
-    values[k / 2] = 0;
-    change_at(lists, holders, marks, keys, hot, k, 0, 65535);
-    change_at(lists, holders, marks, keys, hot, other_code(k), 1, 0);
+    let n = board.trail[0];
+    let k = board.trail[n as usize] as usize;
+    board.trail[0] = n - 1;
+    board.values[k / 2] = 0;
+    change_at(index, board.keys, board.hot, k, 0, 65535);
+    change_at(index, board.keys, board.hot, other_code(k), 1, 0);
 }

@@ -1,9 +1,10 @@
 // The trail: its length, and then the literals that were made true, by number, in order. They are unset in the opposite order.
 ghost use Rattle.std.specs.Prelude.{◌≡◌, ◌+◌, ◌<◌, length};
-ghost use Rattle.board.specs.Boards.{trail_len, pushed};
+ghost use Rattle.board.specs.Boards.{SameRoom, trail_len, pushed};
 ghost use Rattle.board.specs.Trails.{UndoAsked, Undone};
 
 use crate::literal::unset_last;
+use crate::parts::{Board, Index};
 
 // Puts a number on the trail.
 // Rules out: the length left; the number put over the last one.
@@ -20,22 +21,16 @@ pub fn push(trail: &mut [u16], k: usize)
 // Unsets the literals of the trail from its end down to the length `to`.
 // Rules out: one literal too few; the keys left as they were.
 // Required of: search::call::take_back, for a length that the trail has had.
-pub fn undo(
-    lists: &[u16],
-    holders: &[u16],
-    marks: &[u8],
-    values: &mut [u8],
-    keys: &mut [u32],
-    hot: &mut [u16],
-    trail: &mut [u16],
-    to: u16,
-)
-    requires { UndoAsked lists.now holders.now marks.now values.old keys.old hot.old trail.old to }
-    ensures { Undone lists.now holders.now marks.now
-        values.old keys.old hot.old trail.old to
-        values.new keys.new hot.new trail.new }
+pub fn undo(index: &Index, board: &mut Board, to: u16)
+    requires { UndoAsked index.now.lists.now index.now.holders.now index.now.marks.now
+        board.old.values.now board.old.keys.now board.old.hot.now board.old.trail.now to }
+    ensures done { Undone index.now.lists.now index.now.holders.now index.now.marks.now
+        board.old.values.now board.old.keys.now board.old.hot.now board.old.trail.now to
+        board.new.values.now board.new.keys.now board.new.hot.now board.new.trail.now }
+    ensures same { SameRoom board.old board.new }
 {
-    while to < trail[0] {
-        unset_last(lists, holders, marks, values, keys, hot, trail);
+    // Stays a `while`: what is counted is the trail's own length, which unset_last takes down.
+    while to < board.trail[0] {
+        unset_last(index, board);
     }
 }

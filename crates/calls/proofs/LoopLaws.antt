@@ -25,8 +25,8 @@ use Rattle.rules.proofs.RunTrace.{known}
 use Rattle.rules.proofs.RunNext.{chunks-next}
 use Rattle.calls.specs.declared.after.Tally.{Tally}
 use Rattle.calls.specs.declared.next.Limits.{Limits}
-use Rattle.calls.specs.declared.next.Next.{Next}
-use Rattle.calls.specs.declared.next.Next.TheVariants.{GoesOn, Ends}
+use Rattle.std.specs.declared.ops.ControlFlow.{ControlFlow}
+use Rattle.std.specs.declared.ops.ControlFlow.TheVariants.{Continue, Break}
 use Rattle.calls.specs.After.{EndsAt}
 use Rattle.calls.specs.Next.{At, NextTo, goes_on, ends, Called, task}
 use Rattle.calls.specs.Records.{ShowsRecords}
@@ -65,35 +65,35 @@ pub record Further (k : Task) (size : ℕ) (p : Progress) (first : List ℕ) (t 
   pub fewer : opens there.progress.statuses < opens p.statuses
   pub goes : (next : ℕ → Progress → Ended) → on_open (opens p.statuses) k size p next ≡ next t.size there.progress
 
-further : {k : Task} {size : ℕ} {p : Progress} {first : List ℕ} {r : Next} {t : Tally} {status log : List ℕ}
-    → NextTo k size p first r status log → r ≡ GoesOn t → Further k size p first t status log
+further : {k : Task} {size : ℕ} {p : Progress} {first : List ℕ} {r : ControlFlow Report Tally} {t : Tally} {status log : List ℕ}
+    → NextTo k size p first r status log → r ≡ Continue t → Further k size p first t status log
 further {k} {size} {p} {first} {r} {t} {status} {log} (goes_on {t = u} w o e) q =
     let same : u ≡ t = cc in rw (← same) (record { there = w; fewer = o; goes = e })
 further (ends e x f) r = apart cc
 
-ended_there : {k : Task} {size : ℕ} {p : Progress} {first : List ℕ} {r : Next} {u : Report} {status log : List ℕ}
-    → NextTo k size p first r status log → r ≡ Ends u → EndsAt k.vars (onward k size p) u status log
+ended_there : {k : Task} {size : ℕ} {p : Progress} {first : List ℕ} {r : ControlFlow Report Tally} {u : Report} {status log : List ℕ}
+    → NextTo k size p first r status log → r ≡ Break u → EndsAt k.vars (onward k size p) u status log
 ended_there (goes_on w o e) q = apart cc
 ended_there {k} {size} {p} {first} {r} {u} {status} {log} (ends {r = a} z x e) q =
     let same : a ≡ u = cc in rw (e (λ n q. chunks k n q)) (rw same at x)
 
-module _ {k : Task} {first : List ℕ} {t₀ t : Tally} {status₀ log₀ status log status' log' : List ℕ} {values : Values} {r : Next}
+module _ {k : Task} {first : List ℕ} {t₀ t : Tally} {status₀ log₀ status log status' log' : List ℕ} {values : Values} {r : ControlFlow Report Tally}
     (limit : 1 ≤ k.limit) (g : Going k first t₀ status₀ log₀ t status log)
     (call : (w : At k t first status log) → Called k t.size w.progress first r status' log' values)
   where
-    pub going_step : {u : Tally} → r ≡ GoesOn u → Going k first t₀ status₀ log₀ u status' log'
+    pub going_step : {u : Tally} → r ≡ Continue u → Going k first t₀ status₀ log₀ u status' log'
     going_step q v =
         let here = (g v).here in
         let f = further (call here).next q in
         record { here = f.there; same = (g v).same ∙ chunks-next limit here.reached ∙ f.goes (λ n q. chunks k n q) }
 
-    pub going_less : {u : Tally} → r ≡ GoesOn u → At k t₀ first status₀ log₀ → u.candidates < t.candidates
+    pub going_less : {u : Tally} → r ≡ Continue u → At k t₀ first status₀ log₀ → u.candidates < t.candidates
     going_less q v =
         let here = (g v).here in
         let f = further (call here).next q in
         omega (arith, f.there.shows.candidates_are, here.shows.candidates_are, f.fewer)
 
-    pub going_end : {u : Report} → r ≡ Ends u → (v : At k t₀ first status₀ log₀)
+    pub going_end : {u : Report} → r ≡ Break u → (v : At k t₀ first status₀ log₀)
         → EndsAt k.vars (chunks k t₀.size v.progress) u status' log'
     going_end q v =
         let here = (g v).here in
@@ -141,8 +141,8 @@ put_same : {n n' : ℕ} {first first' values status status' calls ways calls' wa
 put_same a b c y = rw (a, b, c) at y
 
 -- one call more, from where the run is
-further_shown : {k : Task} {t u : Tally} {first status log status' log' : List ℕ} {values : Values} {r : Next} (w : At k t first status log)
-    (c : Called k t.size w.progress first r status' log' values) (q : r ≡ GoesOn u) → 1 ≤ t.candidates
+further_shown : {k : Task} {t u : Tally} {first status log status' log' : List ℕ} {values : Values} {r : ControlFlow Report Tally} (w : At k t first status log)
+    (c : Called k t.size w.progress first r status' log' values) (q : r ≡ Continue u) → 1 ≤ t.candidates
     → {calls ways calls' ways' : List ℕ} → ShowsRecords w.progress.records calls ways
     → RecordsPut u.calls first values status' calls ways calls' ways'
     → ShowsRecords (further c.next q).there.progress.records calls' ways'
@@ -157,26 +157,26 @@ further_shown {k} {t} {u} {first} {status} {log} {status'} {log'} {values} w c q
     there = f.there.progress
 
 -- the call ends the run
-ended_shown : {k : Task} {size : ℕ} {p : Progress} {first : List ℕ} {r : Next} {u : Report} {status log : List ℕ}
-    → NextTo k size p first r status log → r ≡ Ends u → 1 ≤ opens p.statuses → (onward k size p).progress.records ≡ p.records
+ended_shown : {k : Task} {size : ℕ} {p : Progress} {first : List ℕ} {r : ControlFlow Report Tally} {u : Report} {status log : List ℕ}
+    → NextTo k size p first r status log → r ≡ Break u → 1 ≤ opens p.statuses → (onward k size p).progress.records ≡ p.records
 ended_shown (goes_on w o e) q some = apart cc
 ended_shown {k} {size} {p} (ends z x e) q some =
     ap (λ (y : Ended). y.progress.records) (e (λ n q. chunks k n q)) ∙ records_end k size p z some e
 
-module _ {k : Task} {first : List ℕ} {t₀ t : Tally} {status₀ log₀ status log status' log' : List ℕ} {values : Values} {r : Next}
+module _ {k : Task} {first : List ℕ} {t₀ t : Tally} {status₀ log₀ status log status' log' : List ℕ} {values : Values} {r : ControlFlow Report Tally}
     (limit : 1 ≤ k.limit) (g : Going k first t₀ status₀ log₀ t status log)
     (call : (w : At k t first status log) → Called k t.size w.progress first r status' log' values) (some : 1 ≤ t.candidates)
     {calls₀ ways₀ calls ways : List ℕ}
     (shown : (v : At k t₀ first status₀ log₀) → ShowsRecords v.progress.records calls₀ ways₀
     → ShowsRecords (g v).here.progress.records calls ways)
   where
-    pub kept_step : {u : Tally} (q : r ≡ GoesOn u) {calls' ways' : List ℕ} → RecordsPut u.calls first values status' calls ways calls' ways'
+    pub kept_step : {u : Tally} (q : r ≡ Continue u) {calls' ways' : List ℕ} → RecordsPut u.calls first values status' calls ways calls' ways'
         → (v : At k t₀ first status₀ log₀) → ShowsRecords v.progress.records calls₀ ways₀
         → ShowsRecords (going_step limit g call q v).here.progress.records calls' ways'
     unfolding going_step
     kept_step q y v x = further_shown (g v).here (call (g v).here) q some (shown v x) y
 
-    pub kept_end : {u : Report} → r ≡ Ends u → (v : At k t₀ first status₀ log₀) → ShowsRecords v.progress.records calls₀ ways₀
+    pub kept_end : {u : Report} → r ≡ Break u → (v : At k t₀ first status₀ log₀) → ShowsRecords v.progress.records calls₀ ways₀
         → ShowsRecords (chunks k t₀.size v.progress).progress.records calls ways
     kept_end q v x =
         let here = (g v).here in

@@ -4,6 +4,7 @@
 --   call_up           a call spends no less than was spent
 --   suc_pred          a number that is not 0
 --   CallMade          the call as code has made it
+--   ready_at, ready_made, call_made     what a call that is due has, before and behind it
 --   on_model, on_none, on_stopped     what comes of it, by what it ended with
 --
 -- Assumes nothing.
@@ -29,12 +30,12 @@ use Rattle.search.specs.Calls.{CallEnds, values_after}
 use Rattle.calls.specs.declared.after.Tally.{Tally}
 use Rattle.calls.specs.declared.after.Made.{Made}
 use Rattle.calls.specs.declared.next.Limits.{Limits}
-use Rattle.calls.specs.declared.next.Next.TheVariants.{GoesOn, Ends}
-use Rattle.calls.specs.After.{ModelLeft, NoneLeft, RowLeft}
-use Rattle.calls.specs.Next.{At, Called, ChunkCalled, chunk_clauses, chunk_on, goes_on, ends, task}
+use Rattle.std.specs.declared.ops.ControlFlow.TheVariants.{Continue, Break}
+use Rattle.calls.specs.After.{TallyReady, ModelLeft, NoneLeft, RowLeft}
+use Rattle.calls.specs.Next.{At, CallDue, Called, ChunkCalled, chunk_clauses, chunk_on, goes_on, ends, task}
 use Rattle.calls.proofs.AfterLaws.{shows_model, shows_none, ends_row}
 use Rattle.search.proofs.EndLaws.{was_model, was_none, was_stopped}
-use Rattle.calls.proofs.CallLaws.{call_next}
+use Rattle.calls.proofs.CallLaws.{call_next, tally_ready}
 
 pub call_up : (es : List ℤ) (first : Values) (status : List ℕ) (chunk : ℕ) (meter : Meter) {vs after : Values} {budget : ℕ} {r : CallEnd}
     → CallEnds (chunk_on es first status chunk meter) vs budget r after → meter.spent ≤ r.meter.spent
@@ -60,6 +61,20 @@ pub record CallMade (es : List ℤ) (limits : Limits) (t : Tally) (first : Value
   pub room : 6 * (t.calls + 1) ≤ length log
   pub chunk_is : chunk ≡ min t.size t.candidates
   pub ended : ChunkCalled es first status chunk (meter_of limits t) r after
+
+-- of a call that is due: no count is out of range behind it, and it is made so
+module _ {es : List ℤ} {starts : List ℕ} {first : Values} {status log : List ℕ} {values : Values} {t : Tally} {limits : Limits}
+    (d : CallDue es starts first status log values t limits) where
+  pub ready_at : (made : Made) → t.tries ≤ made.spent → TallyReady first status log t made
+  ready_at = tally_ready d.over.allowed.some d.over.formula.vars_fit d.over.here d.some
+
+  module _ {chunk : ℕ} {r : CallEnd} {after : Values} (e : ChunkCalled es first status chunk (meter_of limits t) r after) where
+    pub ready_made : TallyReady first status log t (record { chunk = chunk; spent = r.meter.spent })
+    ready_made = ready_at (record { chunk = chunk; spent = r.meter.spent }) (call_up es first status chunk (meter_of limits t) e)
+
+    pub call_made : chunk ≡ min t.size t.candidates → CallMade es limits t first status log chunk r after
+    call_made q =
+        record { some_limit = d.over.allowed.some; some = d.some; room = ready_made.row.log_room_lem; chunk_is = q; ended = e }
 
 module _ (es : List ℤ) (vars : ℕ) (limits : Limits) {t : Tally} {first status log : List ℕ} (w : At (task es vars limits) t first status log) where
   abbrev k : Task
@@ -112,7 +127,7 @@ module _ (es : List ℤ) (vars : ℕ) (limits : Limits) {t : Tally} {first statu
 
       pub on_model : r.outcome ≡ Outcome.Model → {u : Tally} {m status' log' : List ℕ}
           → ModelLeft (clauses es) first after status log t made u m status' log'
-          → Called k t.size p first (GoesOn u) status' log' m
+          → Called k t.size p first (Continue u) status' log' m
       on_model o {u} l =
           let (z, x) = shows_model k p t w.shows d.room refl l in
           let q = was_model d.ended o in
@@ -128,7 +143,7 @@ module _ (es : List ℤ) (vars : ℕ) (limits : Limits) {t : Tally} {first statu
 
       pub on_none : r.outcome ≡ Outcome.NoModel → {u : Tally} {status' log' : List ℕ}
           → NoneLeft first status log t made limits.chunk u status' log'
-          → Called k t.size p first (GoesOn u) status' log' after
+          → Called k t.size p first (Continue u) status' log' after
       on_none o {u} l =
           let here = known w.reached in
           let (z, x) = shows_none k p t w.shows d.room ((first_model_is here).len ∙ sym here.len) (omega (arith, same, opens_are)) l in
@@ -146,7 +161,7 @@ module _ (es : List ℤ) (vars : ℕ) (limits : Limits) {t : Tally} {first statu
 
       pub on_stopped : r.outcome ≡ Outcome.Stopped → {u : Report} {log' : List ℕ}
           → RowLeft log t Outcome.Stopped made u log'
-          → Called k t.size p first (Ends u) status log' after
+          → Called k t.size p first (Break u) status log' after
       on_stopped o {u} l =
           let x = ends_row k p t w.shows d.room Outcome.Stopped l in
           record {

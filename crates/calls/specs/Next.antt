@@ -12,8 +12,8 @@ use Rattle.search.specs.declared.call.CallEnd.{CallEnd}
 use Rattle.search.specs.Calls.{values_after, CallEnds}
 use Rattle.calls.specs.declared.after.Tally.{Tally}
 use Rattle.calls.specs.declared.next.Limits.{Limits}
-use Rattle.calls.specs.declared.next.Next.{Next}
-use Rattle.calls.specs.declared.next.Next.TheVariants.{GoesOn, Ends}
+use Rattle.std.specs.declared.ops.ControlFlow.{ControlFlow}
+use Rattle.std.specs.declared.ops.ControlFlow.TheVariants.{Continue, Break}
 use Rattle.calls.specs.After.{Shows, EndsAt}
 
 -- ---- what a run is about
@@ -73,21 +73,21 @@ ChunkCalled es first status chunk meter result after =
     CallEnds (chunk_on es first status chunk meter) (forced_values status) meter.budget result after
 
 -- what one call makes of the run, whatever is done next: it goes on from another progress with fewer candidates, or it ends there
-pub data NextTo (k : Task) (size : ℕ) (p : Progress) (first : List ℕ) : Next → List ℕ → List ℕ → Type 0 where
+pub data NextTo (k : Task) (size : ℕ) (p : Progress) (first : List ℕ) : ControlFlow Report Tally → List ℕ → List ℕ → Type 0 where
   goes_on : {t : Tally} {status log : List ℕ} (w : At k t first status log) → opens w.progress.statuses < opens p.statuses
       → ((next : ℕ → Progress → Ended) → on_open (opens p.statuses) k size p next ≡ next t.size w.progress)
-      → NextTo k size p first (GoesOn t) status log
+      → NextTo k size p first (Continue t) status log
   ends : {r : Report} {status log : List ℕ} (e : Ended) → EndsAt k.vars e r status log
       → ((next : ℕ → Progress → Ended) → on_open (opens p.statuses) k size p next ≡ e)
-      → NextTo k size p first (Ends r) status log
+      → NextTo k size p first (Break r) status log
 
 -- one call: what it makes of the run, and the values that it leaves, its model or the literals forced so far
-pub record Called (k : Task) (size : ℕ) (p : Progress) (first : List ℕ) (result : Next) (status log : List ℕ) (values : Values) : Type 0 where
+pub record Called (k : Task) (size : ℕ) (p : Progress) (first : List ℕ) (result : ControlFlow Report Tally) (status log : List ℕ) (values : Values) : Type 0 where
   pub next : NextTo k size p first result status log
   pub values_are : values ≡ values_after (chunk_call k p (min size (opens p.statuses))) (forced_values p.statuses)
 
 -- the same from every progress that the buffers may show
-abbrev pub CalledFrom : List ℤ → Limits → Tally → Values → List ℕ → List ℕ → Next → List ℕ → List ℕ → Values → Type 0
+abbrev pub CalledFrom : List ℤ → Limits → Tally → Values → List ℕ → List ℕ → ControlFlow Report Tally → List ℕ → List ℕ → Values → Type 0
 CalledFrom es limits t first status log result status-after log-after values-after =
     (w : At (task es (length status) limits) t first status log)
     → Called (task es (length status) limits) t.size w.progress first result status-after log-after values-after

@@ -6,11 +6,13 @@ ghost use Rattle.calls.specs.Next.{ChunkOver, ChunkCalled, CallDue, CalledFrom};
 ghost use Rattle.calls.specs.Records.{RunOver, RunEnds};
 
 use crate::after::{Made, Tally, after_model, after_none, row_only};
+use formula::view::View;
 use rules::{Outcome, Report, RunAnswer};
 use search::call::CallEnd;
 use search::meter::Meter;
-use search::room::{MAX_BLOCKS, MAX_CODES, MAX_PARTS, MAX_TRAIL};
+use search::room::Room;
 use search::whole::{call_in, whole_call};
+use std::ops::ControlFlow;
 use steps::records::put_records;
 
 // How many tries the run may take, and how many candidates a call.
@@ -53,58 +55,38 @@ pub fn chunk_call(
 // The same over the board of the run, which is kept.
 // Rules out: the constraint of the chunk before; a board that is made anew.
 // Required of: next_call, by CallDue.
-fn chunk_in(
-    entries: &[i32],
-    starts: &[u16],
+fn chunk_in<'a>(
+    entries: &'a [i32],
+    starts: &'a [u16],
     first: &[u8],
     status: &[u8],
-    lists: &[u16; MAX_PARTS],
-    holders: &[u16; rules::MAX_LIST],
-    marks: &mut [u8; MAX_CODES],
-    shown: &mut [u8; rules::MAX_VARS as usize],
-    keys: &mut [u32; rules::MAX_STARTS],
-    hot: &mut [u16; MAX_BLOCKS],
-    trail: &mut [u16; MAX_TRAIL],
+    room: &mut Room,
     values: &mut [u8],
     chunk: u32,
     meter: Meter,
 ) -> CallEnd
     requires { ChunkOver entries.now starts.now first.now status.now values.old chunk
-        × BoardKept (length values.old) entries.now starts.now lists.now holders.now marks.old shown.old keys.old hot.old trail.old }
+        × BoardKept (length values.old) entries.now room.old.lists.now room.old.holders.now room.old.marks.now
+        room.old.board.values.now room.old.board.keys.now room.old.board.hot.now room.old.board.trail.now }
     ensures { ChunkCalled entries.now first.now status.now chunk meter result values.new
-        × BoardKept (length values.old) entries.now starts.now
-        lists.now holders.now marks.new shown.new keys.new hot.new trail.new }
+        × BoardKept (length values.old) entries.now room.new.lists.now room.new.holders.now room.new.marks.now
+        room.new.board.values.now room.new.board.keys.now room.new.board.hot.now room.new.board.trail.now }
 {
     steps::chunk::fill_start(status, values);
     let mut literals = [0i32; rules::MAX_CHUNK as usize];
     let n = chunk as usize;
     steps::constraint::put_constraint(first, status, n, &mut literals);
     let total = starts.len() as u32;
-    call_in(
+    let view = View {
         entries,
         starts,
-        &literals[..n],
-        lists,
-        holders,
-        marks,
-        shown,
-        keys,
-        hot,
-        trail,
-        total,
-        values,
-        meter,
-    )
+        constraint: &literals[..n],
+    };
+    call_in(&view, room, total, values, meter)
 }
 
-// What comes of a call: the run goes on, or it ends there and returns.
-#[derive(Clone, Copy)]
-pub enum Next {
-    GoesOn(Tally),
-    Ends(Report),
-}
-
-// One call, and what it leaves. A model is compared and flipped before the next call can write over it.
+// One call, and what it leaves: the run goes on from a tally, or it ends there and returns. A model is compared and flipped before the
+// next call can write over it.
 // Rules out: two calls at once; the flip kept in the model.
 // Required of: run_calls, while candidates remain.
 fn next_call(
@@ -113,33 +95,25 @@ fn next_call(
     first: &[u8],
     status: &mut [u8],
     log: &mut [u32],
-    lists: &[u16; MAX_PARTS],
-    holders: &[u16; rules::MAX_LIST],
-    marks: &mut [u8; MAX_CODES],
-    shown: &mut [u8; rules::MAX_VARS as usize],
-    keys: &mut [u32; rules::MAX_STARTS],
-    hot: &mut [u16; MAX_BLOCKS],
-    trail: &mut [u16; MAX_TRAIL],
+    room: &mut Room,
     values: &mut [u8],
     t: Tally,
     limits: Limits,
-) -> Next
+) -> ControlFlow<Report, Tally>
     requires { CallDue entries.now starts.now first.now status.old log.old values.old t limits
-        × BoardKept (length status.old) entries.now starts.now lists.now holders.now marks.old shown.old keys.old hot.old trail.old }
+        × BoardKept (length status.old) entries.now room.old.lists.now room.old.holders.now room.old.marks.now
+        room.old.board.values.now room.old.board.keys.now room.old.board.hot.now room.old.board.trail.now }
     ensures { CalledFrom entries.now limits t first.now status.old log.old
         result status.new log.new values.new
-        × BoardKept (length status.old) entries.now starts.now
-        lists.now holders.now marks.new shown.new keys.new hot.new trail.new }
+        × BoardKept (length status.old) entries.now room.new.lists.now room.new.holders.now room.new.marks.now
+        room.new.board.values.now room.new.board.keys.now room.new.board.hot.now room.new.board.trail.now }
 {
     let chunk = lesser(t.size, t.candidates);
     let meter = Meter {
         budget: limits.budget,
         spent: t.tries,
     };
-    let end = chunk_in(
-        entries, starts, first, status, lists, holders, marks, shown, keys, hot, trail, values,
-        chunk, meter,
-    );
+    let end = chunk_in(entries, starts, first, status, room, values, chunk, meter);
     let after = end.meter;
     let made = Made {
         chunk: chunk,
@@ -147,11 +121,18 @@ fn next_call(
     };
     let outcome = end.outcome;
     match outcome {
-        Outcome::Model => Next::GoesOn(after_model(
+        Outcome::Model => ControlFlow::Continue(after_model(
             entries, starts, first, values, status, log, t, made,
         )),
-        Outcome::NoModel => Next::GoesOn(after_none(first, status, log, t, made, limits.chunk)),
-        Outcome::Stopped => Next::Ends(row_only(log, t, Outcome::Stopped, made)),
+        Outcome::NoModel => ControlFlow::Continue(after_none(
+            first,
+            status,
+            log,
+            t,
+            made,
+            limits.chunk,
+        )),
+        Outcome::Stopped => ControlFlow::Break(row_only(log, t, Outcome::Stopped, made)),
     }
 }
 
@@ -167,33 +148,28 @@ pub fn run_calls(
     calls: &mut [u32],
     ways: &mut [u8],
     log: &mut [u32],
-    lists: &[u16; MAX_PARTS],
-    holders: &[u16; rules::MAX_LIST],
-    marks: &mut [u8; MAX_CODES],
-    shown: &mut [u8; rules::MAX_VARS as usize],
-    keys: &mut [u32; rules::MAX_STARTS],
-    hot: &mut [u16; MAX_BLOCKS],
-    trail: &mut [u16; MAX_TRAIL],
+    room: &mut Room,
     values: &mut [u8],
     t: Tally,
     limits: Limits,
 ) -> Report
     requires { RunOver entries.now starts.now first.now status.old calls.old ways.old log.old values.old t limits
-        × BoardKept (length status.old) entries.now starts.now lists.now holders.now marks.old shown.old keys.old hot.old trail.old }
+        × BoardKept (length status.old) entries.now room.old.lists.now room.old.holders.now room.old.marks.now
+        room.old.board.values.now room.old.board.keys.now room.old.board.hot.now room.old.board.trail.now }
     ensures { RunEnds entries.now limits t first.now status.old calls.old ways.old
         log.old result status.new calls.new ways.new log.new }
 {
     let mut tally = t;
+    // Stays a `while`: how many candidates are left, the calls say.
     while 0 < tally.candidates {
         match next_call(
-            entries, starts, first, status, log, lists, holders, marks, shown, keys, hot, trail,
-            values, tally, limits,
+            entries, starts, first, status, log, room, values, tally, limits,
         ) {
-            Next::GoesOn(next) => {
+            ControlFlow::Continue(next) => {
                 tally = next;
                 put_records(first, values, status, calls, ways, tally.calls);
             }
-            Next::Ends(report) => {
+            ControlFlow::Break(report) => {
                 return report;
             }
         }

@@ -1,8 +1,6 @@
 -- The room of a board: what is in use of an array is cut off, lent, and comes back in front of the rest.
 --
---   few, many                   what is in use is within the arrays
 --   in_use                      the part that came back
---   ready_asks, ready_renews, ready_done    the values to start from and a new constraint
 --   begun_kept                  a board that is begun
 --   begins_in                   there is room for as much as there may be
 --
@@ -12,72 +10,19 @@ use mathlib.Core.List.{List, [], ◌++◌}
 use Prim.Native.Nat.{ℕ, zero, suc, ◌-◌, ◌≤◌}
 use native.Mathlib.Omega.{arith}
 use lib.IntN.{ℤ}
-use lib.ListN.{length, take, drop, replicate, length-map, length-replicate}
+use lib.ListN.{length, take, drop, replicate, length-replicate}
 use lib.Seq.{take_at, length-take-le}
-use Rattle.rules.specs.Meaning.{Clause, Values}
+use Rattle.rules.specs.Meaning.{Values}
 use Rattle.rules.specs.Closing.{unsets}
-use Rattle.formula.specs.Starts.{clauses_with}
 use Rattle.formula.proofs.ClauseLaws.{length_starts}
-use Rattle.board.specs.Keys.{key_of}
 use Rattle.board.specs.Boards.{trail_len}
-use Rattle.board.specs.Constraints.{RenewAsked, Renewed}
 use Rattle.board.specs.Trails.Way.{start}
 use Rattle.board.specs.Begins.{BeginAsked, Begun}
-use Rattle.board.specs.Shown.{Shown}
-use Rattle.board.proofs.BeginLaws.{call_shows}
-use Rattle.search.specs.Rooms.{Fits, Arrays, BoardKept, BeginOver, ReadyIn, ReadyAsked, Ready}
+use Rattle.search.specs.Rooms.{BoardKept, BeginOver}
 use Rattle.search.proofs.WholeLaws.{begin_room}
-
-pub few : {vars count : ℕ} {values keys : List ℕ} → Fits vars count → Arrays values keys → vars ≤ length values
-few f a = omega (arith, f.vars_fit, a.value_room)
-
-pub many : {vars count : ℕ} {values keys : List ℕ} → Fits vars count → Arrays values keys → count ≤ length keys
-many f a = omega (arith, f.count_fits, a.key_room)
 
 pub in_use : (n : ℕ) (xs ys : List ℕ) → n ≤ length xs → length ys ≡ length (take n xs) → take n (ys ++ drop n xs) ≡ ys
 in_use n xs ys h k = take_at ys (drop n xs) n (k ∙ length-take-le n xs h)
-
--- ---- the values to start from and a new constraint
-
-pub ready_asks : {wanted : Values} {starts : List ℕ} {con : Clause} {lists holders marks : List ℕ} {values : Values} {keys hot trail : List ℕ}
-    → ReadyIn wanted starts con lists holders marks values keys hot trail → Arrays values keys → length marks ≡ 512
-    → ReadyAsked wanted con lists holders marks (take (length wanted) values) (take (length starts) keys) hot trail
-ready_asks {wanted} {values = values} a r m =
-    let len = length-take-le (length wanted) values (few a.fits r) in
-    record {
-      es = a.es;
-      old = a.old;
-      shows = a.shows;
-      marks_room = omega (arith, len, m, a.fits.vars_fit);
-      len = len;
-      small = a.small;
-      agrees = a.agrees;
-      up_to = a.up_to;
-    }
-
-module _ {wanted : Values} {con : Clause} {lists holders marks : List ℕ} {vs : Values} {keys hot trail : List ℕ}
-    (a : ReadyAsked wanted con lists holders marks vs keys hot trail)
-    {vs2 : Values} {keys2 hot2 trail2 : List ℕ} (d : Shown wanted lists holders marks vs keys hot trail vs2 keys2 hot2 trail2) where
-  pub ready_renews : RenewAsked con marks vs2 keys2 hot2
-  ready_renews =
-      let there = d.shows (clauses_with a.es a.old) a.shows in
-      record {
-        vars_fit = there.small.vars_fit;
-        up_to = rw d.values_are a.up_to;
-        room = omega (arith, ap length d.values_are, a.len, a.marks_room);
-        some = omega (arith, there.index.some, ap length there.keys_are, length-map (clauses_with a.es a.old) (key_of vs2));
-        hot_right = there.hot_are;
-      }
-
-  pub ready_done : {marks3 keys3 hot3 : List ℕ} → Renewed con marks vs2 keys2 hot2 marks3 keys3 hot3
-      → Ready wanted con lists holders marks vs keys hot trail marks3 vs2 keys3 hot3 trail2
-  ready_done n =
-      record {
-        values_are = d.values_are;
-        shows = λ es old index w.
-            call_shows es old con n (rw (ap length d.values_are) index) (d.shows (clauses_with es old) w);
-        leads = d.leads;
-      }
 
 -- ---- the first board
 
@@ -95,10 +40,9 @@ unsets-blank zero = refl
 unsets-blank (suc n) = ap suc (unsets-blank n)
 
 -- it shows no value, and its trail is empty
-pub begun_kept : {vars : ℕ} {es : List ℤ} {starts lists holders marks : List ℕ} (values : Values) (keys : List ℕ) {hot trail : List ℕ}
-    → Begun es vars lists holders marks (take vars values) (take (length starts) keys) hot trail
-    → BoardKept vars es starts lists holders marks values keys hot trail
-begun_kept {vars} values keys {trail = trail} b =
+pub begun_kept : {vars : ℕ} {es : List ℤ} {lists holders marks : List ℕ} {values : Values} {keys hot trail : List ℕ}
+    → Begun es vars lists holders marks values keys hot trail → BoardKept vars es lists holders marks values keys hot trail
+begun_kept {vars} {trail = trail} b =
     record {
       old = [];
       index = b.index;

@@ -1,12 +1,10 @@
 -- A whole call: what it requires beside what its search does, and the board in the room that it goes over. Assumes nothing.
-use Rattle.std.specs.Prelude.{◌≡◌, List, ℕ, ◌-◌, ◌≤◌, ◌<◌, ℤ, get_or, length, take}
+use Rattle.std.specs.Prelude.{◌≡◌, List, ℕ, ◌≤◌, ◌<◌, ℤ, get_or, length}
 use Rattle.rules.specs.Meaning.{Clause, Values}
 use Rattle.rules.specs.Closing.{closing}
 use Rattle.rules.specs.Rounds.{rounds}
-use Rattle.formula.specs.Formula.{Formula}
 use Rattle.board.specs.declared.close.Closing.{Closing}
 use Rattle.board.specs.Closings.{closed_of, rounds_of}
-use Rattle.board.specs.Begins.{BeginAsked}
 use Rattle.search.specs.declared.meter.Meter.{Meter}
 use Rattle.search.specs.declared.call.CallEnd.{CallEnd}
 use Rattle.search.specs.Calls.{CallOver, Calls}
@@ -21,21 +19,16 @@ pub record CallFrom (vs : Values) (es : List ℤ) (starts : List ℕ) (con : Cla
 pub record CallIn (es : List ℤ) (starts : List ℕ) (con : Clause) (lists holders marks : List ℕ) (shown : Values) (keys hot trail : List ℕ)
     (total : ℕ) (vs : Values) : Type 0 where
   pub from : CallFrom vs es starts con total
-  pub kept : BoardKept (length vs) es starts lists holders marks shown keys hot trail
+  pub kept : BoardKept (length vs) es lists holders marks shown keys hot trail
 
 -- what the call ends with; and the board shows the values behind it
-pub record CalledIn (es : List ℤ) (starts : List ℕ) (con : Clause) (lists holders : List ℕ) (total : ℕ) (vs : Values) (m : Meter) (r : CallEnd)
-    (marks : List ℕ) (shown : Values) (keys hot trail : List ℕ) (after : Values) : Type 0 where
+pub record CalledIn (es : List ℤ) (con : Clause) (total : ℕ) (vs : Values) (m : Meter) (r : CallEnd) (lists holders marks : List ℕ)
+    (shown : Values) (keys hot trail : List ℕ) (after : Values) : Type 0 where
   pub calls : Calls es con total vs m r after
-  pub shown_are : take (length vs) shown ≡ after
-  pub kept : BoardKept (length vs) es starts lists holders marks shown keys hot trail
+  pub shown_are : shown ≡ after
+  pub kept : BoardKept (length vs) es lists holders marks shown keys hot trail
 
 -- ---- a closing
-
--- a formula, and room for its board
-pub record CloseRoom (es : List ℤ) (starts heads nexts owners lists holders marks : List ℕ) (vs : Values) (keys hot trail : List ℕ) : Type 0 where
-  pub formula : Formula (length vs) es starts
-  pub begins : BeginAsked (length starts - 1) es heads nexts owners lists holders marks vs keys hot trail
 
 -- closing under the clauses F, from vs, ended with r and left the values `after`
 pub record ClosesBy (F : List Clause) (vs : Values) (r : Closing) (after : Values) : Type 0 where

@@ -1,16 +1,18 @@
 // A call, docs/RULES.md, "Search": going on chooses a variable and calls try, trying sets it and calls go_on. The
 // number of unset variables falls. Nothing is saved: what was set since stands on the trail, and is taken back unless there is a model.
 // The two values of a variable are tried by one call of try in a loop, so that a level takes one frame of the stack.
-ghost use Rattle.std.specs.Prelude.{◌≡◌, length, take};
-ghost use Rattle.search.specs.Boards.{TakenBack, goes_again, WentOn, Tried};
-ghost use Rattle.search.specs.Rooms.{UndoIn, GoIn, TryIn};
+ghost use Rattle.std.specs.Prelude.{◌≡◌};
+ghost use Rattle.board.specs.Boards.{SameRoom};
+ghost use Rattle.board.specs.Trails.{UndoAsked};
+ghost use Rattle.search.specs.Boards.{TakenBack, goes_again, GoOver, WentOn, TryBegins, Tried};
 
 use crate::meter::Meter;
-use crate::room::{
-    MAX_BLOCKS, MAX_CODES, MAX_PARTS, MAX_TRAIL, choice_in, close_in, set_in, undo_in,
-};
-use board::close::Closing;
-use board::literal::literal_of;
+use crate::values::lowest_from;
+use board::close::{Closing, close};
+use board::literal::{literal_of, set_literal};
+use board::parts::{Board, Index};
+use board::trail::undo;
+use formula::view::View;
 use rules::{Outcome, Var};
 
 // What a call ends with, and the meter as it then is. The model's values are in the lent buffer.
@@ -23,30 +25,18 @@ pub struct CallEnd {
 // Unless a model was found, what was set since the trail had the length `to` is taken back.
 // Rules out: a model taken back; values left after none.
 // Required of: go_on and try_value, with the length at their start.
-fn take_back(
-    lists: &[u16; MAX_PARTS],
-    holders: &[u16; rules::MAX_LIST],
-    marks: &[u8; MAX_CODES],
-    values: &mut [u8; rules::MAX_VARS as usize],
-    keys: &mut [u32; rules::MAX_STARTS],
-    hot: &mut [u16; MAX_BLOCKS],
-    trail: &mut [u16; MAX_TRAIL],
-    vars: usize,
-    count: usize,
-    to: u16,
-    outcome: Outcome,
-)
-    requires { UndoIn vars count lists.now holders.now marks.now values.old keys.old hot.old trail.old to }
-    ensures { TakenBack lists.now holders.now marks.now
-        (take vars values.old) (take count keys.old) hot.old trail.old to outcome
-        (take vars values.new) (take count keys.new) hot.new trail.new }
+fn take_back(index: &Index, board: &mut Board, to: u16, outcome: Outcome)
+    requires { UndoAsked index.now.lists.now index.now.holders.now index.now.marks.now
+        board.old.values.now board.old.keys.now board.old.hot.now board.old.trail.now to }
+    ensures done { TakenBack index.now.lists.now index.now.holders.now index.now.marks.now
+        board.old.values.now board.old.keys.now board.old.hot.now board.old.trail.now to outcome
+        board.new.values.now board.new.keys.now board.new.hot.now board.new.trail.now }
+    ensures same { SameRoom board.old board.new }
 {
     if let Outcome::Model = outcome {
         return;
     }
-    undo_in(
-        lists, holders, marks, values, keys, hot, trail, vars, count, to,
-    );
+    undo(index, board, to);
 }
 
 // Whether true is tried after a try: if false was, and found nothing.
@@ -64,75 +54,48 @@ fn goes_again(outcome: Outcome, value: bool) -> bool
 // Going on: close; on a clash there is no model here; if all variables are set, this is the model; otherwise take the lowest unset
 // variable, below which and so below `from` all are set, and try it false, then, if that finds nothing, true.
 // Rules out: the model with true before false; stopped as none.
-// Required of: whole::in_room, for the board that it has made; try_value, which requires it too.
+// Required of: whole::call_in, for the board that shows the values at the start; try_value, which requires it too.
 #[cycle(go_on_try_value)]
-pub fn go_on<'a>(
-    entries: &'a [i32],
-    starts: &[u16],
-    constraint: &'a [i32],
-    lists: &[u16; MAX_PARTS],
-    holders: &[u16; rules::MAX_LIST],
-    marks: &[u8; MAX_CODES],
-    values: &mut [u8; rules::MAX_VARS as usize],
-    keys: &mut [u32; rules::MAX_STARTS],
-    hot: &mut [u16; MAX_BLOCKS],
-    trail: &mut [u16; MAX_TRAIL],
-    vars: usize,
+pub fn go_on(
+    view: &View,
+    index: &Index,
+    board: &mut Board,
     total: usize,
     from: usize,
     meter: Meter,
 ) -> CallEnd
-    requires { GoIn vars entries.now starts.now constraint.now lists.now holders.now marks.now
-        values.old keys.old hot.old trail.old total from }
-    ensures { WentOn entries.now constraint.now lists.now holders.now marks.now
-        (take vars values.old) trail.old total meter result
-        (take vars values.new) (take (length starts.now) keys.new) hot.new trail.new }
+    requires { GoOver view.now.entries.now view.now.starts.now view.now.constraint.now
+        index.now.lists.now index.now.holders.now index.now.marks.now
+        board.old.values.now board.old.keys.now board.old.hot.now board.old.trail.now total from }
+    ensures done { WentOn view.now.entries.now view.now.constraint.now index.now.lists.now index.now.holders.now index.now.marks.now
+        board.old.values.now board.old.trail.now total meter result
+        board.new.values.now board.new.keys.now board.new.hot.now board.new.trail.now }
+    ensures same { SameRoom board.old board.new }
 {
-    let count = starts.len();
-    let to = trail[0];
-    let closing = close_in(
-        entries, starts, constraint, lists, holders, marks, values, keys, hot, trail, vars, total,
-    );
-    if let Closing::Clash(_) = closing {
-        take_back(
-            lists,
-            holders,
-            marks,
-            values,
-            keys,
-            hot,
-            trail,
-            vars,
-            count,
-            to,
-            Outcome::NoModel,
-        );
+    let to = board.trail[0];
+    if let Closing::Clash(_) = close(view, index, board, total) {
+        take_back(index, board, to, Outcome::NoModel);
         return CallEnd {
             outcome: Outcome::NoModel,
-            meter: meter,
+            meter,
         };
     }
-    let Some(v) = choice_in(values, vars, from) else {
+    let Some(v) = lowest_from(board, from) else {
         return CallEnd {
             outcome: Outcome::Model,
-            meter: meter,
+            meter,
         };
     };
     let mut rest = meter;
     let mut value = false;
     loop {
-        let end = try_value(
-            entries, starts, constraint, lists, holders, marks, values, keys, hot, trail, vars,
-            total, rest, v, value,
-        );
+        let end = try_value(view, index, board, total, rest, v, value);
         let outcome = end.outcome;
         if goes_again(outcome, value) {
             rest = end.meter;
             value = true;
         } else {
-            take_back(
-                lists, holders, marks, values, keys, hot, trail, vars, count, to, outcome,
-            );
+            take_back(index, board, to, outcome);
             return end;
         }
     }
@@ -142,68 +105,33 @@ pub fn go_on<'a>(
 // Rules out: a try not counted; the variable left set after none.
 // Required of: go_on, for the lowest unset variable.
 #[cycle(go_on_try_value)]
-pub fn try_value<'a>(
-    entries: &'a [i32],
-    starts: &[u16],
-    constraint: &'a [i32],
-    lists: &[u16; MAX_PARTS],
-    holders: &[u16; rules::MAX_LIST],
-    marks: &[u8; MAX_CODES],
-    values: &mut [u8; rules::MAX_VARS as usize],
-    keys: &mut [u32; rules::MAX_STARTS],
-    hot: &mut [u16; MAX_BLOCKS],
-    trail: &mut [u16; MAX_TRAIL],
-    vars: usize,
+pub fn try_value(
+    view: &View,
+    index: &Index,
+    board: &mut Board,
     total: usize,
     meter: Meter,
     v: Var,
     value: bool,
 ) -> CallEnd
-    requires { TryIn vars entries.now starts.now constraint.now lists.now holders.now marks.now
-        values.old keys.old hot.old trail.old total v.0 }
-    ensures { Tried entries.now constraint.now lists.now holders.now marks.now
-        (take vars values.old) trail.old total meter v.0 value result
-        (take vars values.new) (take (length starts.now) keys.new) hot.new trail.new }
+    requires { TryBegins view.now.entries.now view.now.starts.now view.now.constraint.now
+        index.now.lists.now index.now.holders.now index.now.marks.now
+        board.old.values.now board.old.keys.now board.old.hot.now board.old.trail.now total v.0 }
+    ensures done { Tried view.now.entries.now view.now.constraint.now index.now.lists.now index.now.holders.now index.now.marks.now
+        board.old.values.now board.old.trail.now total meter v.0 value result
+        board.new.values.now board.new.keys.now board.new.hot.now board.new.trail.now }
+    ensures same { SameRoom board.old board.new }
 {
     let Some(left) = meter.ask_try() else {
         return CallEnd {
             outcome: Outcome::Stopped,
-            meter: meter,
+            meter,
         };
     };
-    let count = starts.len();
-    let to = trail[0];
-    set_in(
-        lists,
-        holders,
-        marks,
-        values,
-        keys,
-        hot,
-        trail,
-        vars,
-        count,
-        literal_of(v, value),
-    );
-    let end = go_on(
-        entries,
-        starts,
-        constraint,
-        lists,
-        holders,
-        marks,
-        values,
-        keys,
-        hot,
-        trail,
-        vars,
-        total,
-        v.0 as usize,
-        left,
-    );
+    let to = board.trail[0];
+    set_literal(index, board, literal_of(v, value));
+    let end = go_on(view, index, board, total, v.0 as usize, left);
     let outcome = end.outcome;
-    take_back(
-        lists, holders, marks, values, keys, hot, trail, vars, count, to, outcome,
-    );
+    take_back(index, board, to, outcome);
     end
 }

@@ -1,19 +1,21 @@
-// The choice of a variable by values that are lent, a byte for each.
+// The choice of a variable by the values that a board shows.
 ghost use Rattle.std.specs.Prelude.{◌≡◌, ◌≤◌, length};
 ghost use Rattle.rules.specs.Numbers.{max_vars};
 ghost use Rattle.rules.specs.Search.{lowest_unset};
 ghost use Rattle.search.specs.Choices.{choice_of};
 ghost use Rattle.search.specs.Boards.{SetBelow};
 
+use board::parts::Board;
 use rules::Var;
 
 // The lowest unset variable, if not all are set, from an index below which all variables are set.
 // Rules out: an unset variable behind another; none with one left.
 // Required of: call::go_on, which requires it too.
-pub fn lowest_from(values: &[u8], from: usize) -> Option<Var>
-    requires { (length values.now ≤ max_vars) × SetBelow from values.now }
-    ensures { result ≡ choice_of (lowest_unset values.now) }
+pub fn lowest_from(board: &Board, from: usize) -> Option<Var>
+    requires { (length board.now.values.now ≤ max_vars) × SetBelow from board.now.values.now }
+    ensures { result ≡ choice_of (lowest_unset board.now.values.now) }
 {
+    let values = &*board.values;
     for i in from..values.len() {
         if values[i] == 0 {
             return Some(Var(i as u32 + 1));

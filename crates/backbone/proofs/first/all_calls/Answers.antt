@@ -1,4 +1,4 @@
--- `first::all_calls` meets its contract: the board is begun, and then the run, by what its first call ended with. Assumes nothing.
+-- `first::all_calls` meets its contract: the run, by what its first call ended with. Assumes nothing.
 use mathlib.Core.Path.{refl, ◌∙◌}
 use native.Mathlib.Omega.{arith}
 use lib.ListN.{length}
@@ -9,14 +9,10 @@ use Rattle.search.proofs.EndLaws.{was_model}
 use Rattle.backbone.proofs.FirstLaws.{kept_len, row_begun, first_called, done_by_row}
 use Rattle.backbone.proofs.first.all_calls.Goals as goal
 
-pub begin_in-requires : goal.begin_in-requires
-begin_in-requires c =
-    record { formula = rw c.requires.0.values_len c.requires.0.begins.formula; cold = c.requires.1 }
-
 pub first_in-end-requires : goal.first_in-end-requires
 first_in-end-requires c =
-    let s = c.before.before in
-    (rw s.requires.0.values_len s.requires.0.begins.formula, c.begin_in.ensures)
+    let p = c.requires.0 in
+    (rw p.values_len p.begins.formula, rw p.values_len c.requires.1)
 
 pub settle-requires : goal.settle-requires
 settle-requires c =

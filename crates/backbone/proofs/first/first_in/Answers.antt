@@ -1,11 +1,12 @@
 -- `first::first_in` meets its contract: the values are cleared, the clauses are the formula's alone, and the board is kept. Assumes nothing.
+use mathlib.Core.Path.{sym}
 use native.Mathlib.Omega.{arith}
 use lib.ListN.{length}
 use Rattle.rules.proofs.ClauseLaws.{clauses_le}
 use Rattle.formula.proofs.ClauseLaws.{length_starts}
 use Rattle.search.proofs.WholeLaws.{call_blank, formula_clauses}
 use Rattle.calls.proofs.CallLaws.{ends_same}
-use Rattle.backbone.proofs.FirstLaws.{first_over}
+use Rattle.backbone.proofs.FirstLaws.{first_over, kept_len}
 use Rattle.backbone.proofs.first.first_in.Goals as goal
 
 pub overflow_sub-total : goal.overflow_sub-total
@@ -20,11 +21,11 @@ pub call_in-requires : goal.call_in-requires
 call_in-requires c =
     record {
       from = call_blank (length c.args.values.now) c.clear_bytes.ensures (first_over c.requires.0 c.clear_bytes.auto.bytes);
-      kept = rw c.clear_bytes.auto.bytes c.requires.1;
+      kept = kept_len (sym c.clear_bytes.auto.bytes) c.requires.1;
     }
 
 pub returns : goal.returns
 returns c = (
-  ends_same 0 (formula_clauses c.requires.0) c.clear_bytes.ensures c.call_in.ensures.calls,
-  rw c.clear_bytes.auto.bytes at c.call_in.ensures.kept,
+  ends_same 0 (formula_clauses c.requires.0) c.clear_bytes.ensures c.call_in.ensures.done.calls,
+  kept_len c.clear_bytes.auto.bytes c.call_in.ensures.done.kept,
 )

@@ -5,8 +5,9 @@ use Rattle.board.proofs.CloseLaws.{Closings}
 use Rattle.board.proofs.close.close.Given as goal
 
 abbrev pub invariant-loop-set : goal.invariant-loop-set
-invariant-loop-set l = Closings l.entries l.constraint l.lists l.holders l.marks l.initial.values l.initial.keys l.initial.hot l.initial.trail l.total
-    l.rounds l.values l.keys l.hot l.trail
+invariant-loop-set l = Closings l.view.entries.now l.view.constraint.now l.index.lists.now l.index.holders.now l.index.marks.now
+    l.initial.board.values.now l.initial.board.keys.now l.initial.board.hot.now l.initial.board.trail.now l.total
+    l.rounds l.board.values.now l.board.keys.now l.board.hot.now l.board.trail.now
 
 abbrev pub decreases-loop-set : goal.decreases-loop-set
-decreases-loop-set l = unsets l.values
+decreases-loop-set l = unsets l.board.values.now

@@ -31,10 +31,6 @@ loop-i-preserved c =
     (record { sfits = c.mark-arg-in-loop-i-1.given })) at c.mark-key.ensures)
     c.mark-key.auto.marks
 
-pub shape_of-marks : goal.shape_of-marks
-shape_of-marks c =
-    c.loop-i.invariant.same
-
 pub returns : goal.returns
 returns c =
     marking_done c.requires c.loop-i-test.false c.loop-i.invariant

@@ -17,7 +17,6 @@ put_key-requires c =
       a.hot_right,
     )
 
-pub returns : goal.returns
-returns c =
-    renewed c.requires c.mark_all-key.ensures
-    c.put_key.ensures.0 c.put_key.ensures.1
+pub returns-clause-done : goal.returns-clause-done
+returns-clause-done c =
+    renewed c.requires c.mark_all-key.ensures c.put_key.ensures.0 c.put_key.ensures.1

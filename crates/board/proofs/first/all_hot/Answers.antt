@@ -27,10 +27,6 @@ pub loop-i-preserved : goal.loop-i-preserved
 loop-i-preserved c =
     heating_step c.requires c.loop-i-test.true c.loop-i.invariant
 
-pub shape_of-hot : goal.shape_of-hot
-shape_of-hot c =
-    c.loop-i.invariant.same
-
 pub returns : goal.returns
 returns c =
     heating_done c.requires c.loop-i-test.false c.loop-i.invariant

@@ -1,11 +1,6 @@
 -- `board::first::count_all` meets its contract. Assumes nothing.
-use native.Mathlib.Omega.{arith}
 use Rattle.board.proofs.FirstLaws.{counting_start, counting_asks, counting_step, counting_done}
 use Rattle.board.proofs.first.count_all.Goals as goal
-
-pub overflow_mul-codes : goal.overflow_mul-codes
-overflow_mul-codes c =
-    omega (arith, c.requires.can.small.vars_fit)
 
 pub loop-k-init : goal.loop-k-init
 loop-k-init c =
@@ -19,14 +14,6 @@ pub loop-k-preserved : goal.loop-k-preserved
 loop-k-preserved c =
     counting_step c.loop-k-test.true c.loop-k.invariant c.change_at.ensures
     c.change_at.auto.keys c.change_at.auto.hot
-
-pub shape_of-keys : goal.shape_of-keys
-shape_of-keys c =
-    c.loop-k.invariant.same_keys
-
-pub shape_of-hot : goal.shape_of-hot
-shape_of-hot c =
-    c.loop-k.invariant.same_hot
 
 pub returns : goal.returns
 returns c =

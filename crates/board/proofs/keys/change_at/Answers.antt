@@ -1,19 +1,11 @@
 -- `board::keys::change_at` meets its contract: the list of the literal, and then the constraint. Assumes nothing.
 use mathlib.Core.List.{[]}
-use Prim.Native.Nat.{◌+◌, ◌-◌}
+use Prim.Native.Nat.{◌-◌}
 use native.Mathlib.Omega.{arith}
 use lib.ListN.{length}
 use borrow.Author.Tests.{eq-eqb, ne_eqb}
 use Rattle.board.proofs.HolderLaws.{Turn, asked_list, marked_turn, changed_marked, changed_alone}
 use Rattle.board.proofs.keys.change_at.Goals as goal
-
-pub overflow_cast-from : goal.overflow_cast-from
-overflow_cast-from c =
-    omega (arith, c.type_inv.lists c.args.k)
-
-pub overflow_cast-to : goal.overflow_cast-to
-overflow_cast-to c =
-    omega (arith, c.type_inv.lists (c.args.k + 1))
 
 pub change_all-requires : goal.change_all-requires
 change_all-requires c =
@@ -24,7 +16,7 @@ overflow_add-key c =
     let here : let keys = c.change_all.new.keys in
     Turn c.args.add c.args.less (length keys - 1) [] keys =
     marked_turn c.requires c.change_all.ensures
-    (eq-eqb _ _ c.if-marks-k-eq1.true) in
+    (eq-eqb _ _ c.if-index-k-eq1.true) in
     omega (arith, here.now_can.fits)
 
 pub overflow_sub-key : goal.overflow_sub-key
@@ -32,7 +24,7 @@ overflow_sub-key c =
     let here : let keys = c.change_all.new.keys in
     Turn c.args.add c.args.less (length keys - 1) [] keys =
     marked_turn c.requires c.change_all.ensures
-    (eq-eqb _ _ c.if-marks-k-eq1.true) in
+    (eq-eqb _ _ c.if-index-k-eq1.true) in
     omega (arith, here.now_can.enough)
 
 pub put_key-requires : goal.put_key-requires
@@ -40,16 +32,16 @@ put_key-requires c =
     let here : let keys = c.change_all.new.keys in
     Turn c.args.add c.args.less (length keys - 1) [] keys =
     marked_turn c.requires c.change_all.ensures
-    (eq-eqb _ _ c.if-marks-k-eq1.true) in
+    (eq-eqb _ _ c.if-index-k-eq1.true) in
     (here.at_key, c.change_all.ensures.hot_right)
 
-pub returns-then-marks-k-eq1 : goal.returns-then-marks-k-eq1
-returns-then-marks-k-eq1 c =
+pub returns-then-index-k-eq1 : goal.returns-then-index-k-eq1
+returns-then-index-k-eq1 c =
     changed_marked c.requires
-    c.change_all.ensures (eq-eqb _ _ c.if-marks-k-eq1.true) c.put_key.ensures.0
+    c.change_all.ensures (eq-eqb _ _ c.if-index-k-eq1.true) c.put_key.ensures.0
     c.put_key.ensures.1
 
-pub returns-else-marks-k-eq1 : goal.returns-else-marks-k-eq1
-returns-else-marks-k-eq1 c =
+pub returns-else-index-k-eq1 : goal.returns-else-index-k-eq1
+returns-else-index-k-eq1 c =
     changed_alone c.requires
-    c.change_all.ensures (ne_eqb _ _ c.if-marks-k-eq1.false)
+    c.change_all.ensures (ne_eqb _ _ c.if-index-k-eq1.false)

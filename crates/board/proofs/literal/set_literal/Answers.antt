@@ -32,13 +32,23 @@ push-requires c =
 
 pub returns : goal.returns
 returns c =
-    let trailed = c.push.ensures ∙ ap (pushed c.args.trail.now) c.code_of-k.ensures in
+    let trailed = c.push.ensures ∙ ap (pushed c.args.board.now.trail.now) c.code_of-k.ensures in
     record {
-      values_are = c.make_true.ensures;
-      trail_is = trailed;
-      shows =
-          λ F w. rw c.make_true.ensures
-          (set_done (record { shows = w; literal = c.requires.can.literal; unset = c.requires.can.unset })
-          (rw c.code_of-k.ensures at c.change_at.ensures)
-          (rw (c.other_code.ensures, c.code_of-k.ensures) at c.change_at-2.ensures) trailed);
+      done =
+          record {
+            values_are = c.make_true.ensures;
+            trail_is = trailed;
+            shows =
+                λ F w. rw c.make_true.ensures
+                (set_done (record { shows = w; literal = c.requires.can.literal; unset = c.requires.can.unset })
+                (rw c.code_of-k.ensures at c.change_at.ensures)
+                (rw (c.other_code.ensures, c.code_of-k.ensures) at c.change_at-2.ensures) trailed);
+          };
+      same =
+          record {
+            values = c.make_true.auto.values;
+            keys = c.change_at-2.auto.keys ∙ c.change_at.auto.keys;
+            hot = c.change_at-2.auto.hot ∙ c.change_at.auto.hot;
+            trail = c.push.auto.trail;
+          };
     }

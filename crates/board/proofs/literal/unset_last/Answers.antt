@@ -1,37 +1,29 @@
 -- `board::literal::unset_last` meets its contract: two changes, each of which can be made, and a place less on the trail. Assumes nothing.
-use mathlib.Core.Path.{refl}
+use mathlib.Core.Path.{refl, ◌∙◌}
 use native.Mathlib.Omega.{arith}
-use lib.ListN.{get_or}
+use lib.ListN.{get_or, length-set}
 use Rattle.board.specs.Boards.{trail_len}
 use Rattle.board.proofs.BoardLaws.{unset_asks, unset_asks_other, unset_done, unassign_code, last_room, last_place}
 use Rattle.board.proofs.literal.unset_last.Goals as goal
 
-pub bounds-trail-0 : goal.bounds-trail-0
-bounds-trail-0 c =
+pub bounds-board-0 : goal.bounds-board-0
+bounds-board-0 c =
     omega (arith, c.requires.can.shows.room)
 
-pub offset_bounds-trail-n : goal.offset_bounds-trail-n
-offset_bounds-trail-n c =
+pub offset_bounds-board-n : goal.offset_bounds-board-n
+offset_bounds-board-n c =
     omega (arith, last_room c.requires.can)
 
-pub bounds-trail-n : goal.bounds-trail-n
-bounds-trail-n c =
+pub bounds-board-n : goal.bounds-board-n
+bounds-board-n c =
     last_room c.requires.can
 
-pub overflow_cast-k-2 : goal.overflow_cast-k-2
-overflow_cast-k-2 c =
-    omega (arith, c.slice_known-6-1.given (trail_len c.args.trail.now))
-
-pub overflow_sub-trail : goal.overflow_sub-trail
-overflow_sub-trail c =
-    c.requires.can.some
-
-pub bounds-trail-0-2 : goal.bounds-trail-0-2
-bounds-trail-0-2 c =
+pub bounds-board-0-2 : goal.bounds-board-0-2
+bounds-board-0-2 c =
     omega (arith, last_room c.requires.can)
 
-pub bounds-values-k : goal.bounds-values-k
-bounds-values-k c =
+pub bounds-board-k : goal.bounds-board-k
+bounds-board-k c =
     last_place c.requires.can
 
 pub change_at-requires : goal.change_at-requires
@@ -50,13 +42,24 @@ change_at-requires-2 c =
 
 pub returns : goal.returns
 returns c =
-    let valued = unassign_code c.args.values.now (get_or c.args.trail.now (trail_len c.args.trail.now) 0) in
+    let b = c.args.board.now in
+    let valued = unassign_code b.values.now (get_or b.trail.now (trail_len b.trail.now) 0) in
     record {
-      values_are = valued;
-      trail_is = refl;
-      shows =
-          λ F w. rw valued
-          (unset_done (record { shows = w; some = c.requires.can.some; literal = c.requires.can.literal; true_here = c.requires.can.true_here })
-          c.change_at.ensures
-          (rw c.other_code.ensures at c.change_at-2.ensures) refl);
+      done =
+          record {
+            values_are = valued;
+            trail_is = refl;
+            shows =
+                λ F w. rw valued
+                (unset_done (record { shows = w; some = c.requires.can.some; literal = c.requires.can.literal; true_here = c.requires.can.true_here })
+                c.change_at.ensures
+                (rw c.other_code.ensures at c.change_at-2.ensures) refl);
+          };
+      same =
+          record {
+            values = length-set b.values.now _ _;
+            keys = c.change_at-2.auto.keys ∙ c.change_at.auto.keys;
+            hot = c.change_at-2.auto.hot ∙ c.change_at.auto.hot;
+            trail = length-set b.trail.now _ _;
+          };
     }

@@ -5,8 +5,9 @@ use Rattle.board.proofs.VisitLaws.{Visiting}
 use Rattle.board.proofs.round.round.Given as goal
 
 abbrev pub invariant-loop-n : goal.invariant-loop-n
-invariant-loop-n l = Visiting l.entries l.constraint l.lists l.holders l.marks l.initial.values l.initial.keys l.initial.hot l.initial.trail l.total l.n
-    l.values l.set l.keys l.hot l.trail
+invariant-loop-n l = Visiting l.view.entries.now l.view.constraint.now l.index.lists.now l.index.holders.now l.index.marks.now
+    l.initial.board.values.now l.initial.board.keys.now l.initial.board.hot.now l.initial.board.trail.now l.total l.n
+    l.board.values.now l.set l.board.keys.now l.board.hot.now l.board.trail.now
 
 abbrev pub decreases-loop-n : goal.decreases-loop-n
 decreases-loop-n l = l.total - l.n

@@ -7,10 +7,6 @@ pub loop-i-init : goal.loop-i-init
 loop-i-init c =
     showing_start c.requires
 
-pub bounds-wanted-i : goal.bounds-wanted-i
-bounds-wanted-i c =
-    c.loop-i-test.true
-
 pub show_one-requires : goal.show_one-requires
 show_one-requires c =
     showing_one c.requires
@@ -19,25 +15,13 @@ show_one-requires c =
 pub loop-i-preserved : goal.loop-i-preserved
 loop-i-preserved c =
     showing_step c.requires
-    c.loop-i-test.true c.loop-i.invariant c.show_one.ensures
-    c.show_one.auto.keys c.show_one.auto.hot c.show_one.auto.trail
-
-pub shape_of-values : goal.shape_of-values
-shape_of-values c =
-    c.loop-i.invariant.filled.len ∙ sym c.requires.len
-
-pub shape_of-keys : goal.shape_of-keys
-shape_of-keys c =
-    c.loop-i.invariant.same_keys
-
-pub shape_of-hot : goal.shape_of-hot
-shape_of-hot c =
-    c.loop-i.invariant.same_hot
-
-pub shape_of-trail : goal.shape_of-trail
-shape_of-trail c =
-    c.loop-i.invariant.same_trail
+    c.loop-i-test.true c.loop-i.invariant c.show_one.ensures.done
+    c.show_one.ensures.same.keys c.show_one.ensures.same.hot c.show_one.ensures.same.trail
 
 pub returns : goal.returns
 returns c =
-    showing_done c.requires c.loop-i-test.false c.loop-i.invariant
+    let w = c.loop-i.invariant in
+    record {
+      done = showing_done c.requires c.loop-i-test.false w;
+      same = record { values = w.filled.len ∙ sym c.requires.len; keys = w.same_keys; hot = w.same_hot; trail = w.same_trail };
+    }

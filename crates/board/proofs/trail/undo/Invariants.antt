@@ -4,8 +4,10 @@ use Rattle.board.specs.Boards.{trail_len}
 use Rattle.board.proofs.TrailLaws.{Undoing}
 use Rattle.board.proofs.trail.undo.Given as goal
 
-abbrev pub invariant-loop-trail : goal.invariant-loop-trail
-invariant-loop-trail l = Undoing l.lists l.holders l.marks l.initial.values l.initial.keys l.initial.hot l.initial.trail l.to l.values l.keys l.hot l.trail
+abbrev pub invariant-loop-board : goal.invariant-loop-board
+invariant-loop-board l = Undoing l.index.lists.now l.index.holders.now l.index.marks.now
+    l.initial.board.values.now l.initial.board.keys.now l.initial.board.hot.now l.initial.board.trail.now l.to
+    l.board.values.now l.board.keys.now l.board.hot.now l.board.trail.now
 
-abbrev pub decreases-loop-trail : goal.decreases-loop-trail
-decreases-loop-trail l = trail_len l.trail
+abbrev pub decreases-loop-board : goal.decreases-loop-board
+decreases-loop-board l = trail_len l.board.trail.now

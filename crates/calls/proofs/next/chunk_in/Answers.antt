@@ -40,8 +40,8 @@ slice_bounds-literals-end c =
     omega (arith, few, c.put_constraint.auto) in
     room
 
-pub slice_bounds-call_in-end : goal.slice_bounds-call_in-end
-slice_bounds-call_in-end c =
+pub slice_bounds-view-end : goal.slice_bounds-view-end
+slice_bounds-view-end c =
     let few : c.args.chunk ≤ 256 =
     omega (arith, count_le is_open c.args.status.now, c.requires.0.formula.vars_fit, c.requires.0.status_len, c.requires.0.chunk_most) in
     let room : c.args.chunk ≤ length c.put_constraint.new.out =
@@ -71,6 +71,6 @@ returns c =
       ends_same c.args.meter.spent
           (chunk_clauses_lem c.requires.0.formula literals ∙
           ap (λ (con : Clause). clauses c.args.entries.now ++ con ∷ []) c.put_constraint.ensures.front)
-          start_is c.call_in.ensures.calls,
-      rw c.fill_start.auto.values at c.call_in.ensures.kept,
+          start_is c.call_in.ensures.done.calls,
+      rw c.fill_start.auto.values at c.call_in.ensures.done.kept,
     )

@@ -41,7 +41,7 @@ pub loop-tally-smaller : goal.loop-tally-smaller
 loop-tally-smaller c =
     let p = c.requires.0.over in
     let l = c.loop-tally.invariant.0.running in
-    going_less p.allowed.some l.going (rw l.status_len at c.next_call.ensures.0) c.in-GoesOn.is p.here
+    going_less p.allowed.some l.going (rw l.status_len at c.next_call.ensures.0) c.in-Continue.is p.here
 
 pub loop-tally-preserved : goal.loop-tally-preserved
 loop-tally-preserved c =
@@ -56,48 +56,48 @@ loop-tally-preserved c =
               status_len = kept.status ∙ l.status_len;
               log_len = kept.log ∙ l.log_len;
               values_len = kept.values ∙ l.values_len;
-              going = going_step p.allowed.some l.going ensured c.in-GoesOn.is;
+              going = going_step p.allowed.some l.going ensured c.in-Continue.is;
             };
         calls_len = c.put_records.auto.calls ∙ w.calls_len;
         ways_len = c.put_records.auto.ways ∙ w.ways_len;
         shown =
-            kept_step p.allowed.some l.going ensured c.loop-tally-test.true w.shown c.in-GoesOn.is
+            kept_step p.allowed.some l.going ensured c.loop-tally-test.true w.shown c.in-Continue.is
             c.put_records.ensures;
       },
       rw l.status_len at c.next_call.ensures.1,
     )
 
-pub shape_of-status-in-Ends : goal.shape_of-status-in-Ends
-shape_of-status-in-Ends c =
+pub shape_of-status-in-Break : goal.shape_of-status-in-Break
+shape_of-status-in-Break c =
     c.next_call.auto.status ∙ c.loop-tally.invariant.0.running.status_len
 
-pub shape_of-calls-in-Ends : goal.shape_of-calls-in-Ends
-shape_of-calls-in-Ends c =
+pub shape_of-calls-in-Break : goal.shape_of-calls-in-Break
+shape_of-calls-in-Break c =
     c.loop-tally.invariant.0.calls_len
 
-pub shape_of-ways-in-Ends : goal.shape_of-ways-in-Ends
-shape_of-ways-in-Ends c =
+pub shape_of-ways-in-Break : goal.shape_of-ways-in-Break
+shape_of-ways-in-Break c =
     c.loop-tally.invariant.0.ways_len
 
-pub shape_of-log-in-Ends : goal.shape_of-log-in-Ends
-shape_of-log-in-Ends c =
+pub shape_of-log-in-Break : goal.shape_of-log-in-Break
+shape_of-log-in-Break c =
     c.next_call.auto.log ∙ c.loop-tally.invariant.0.running.log_len
 
-pub shape_of-values-in-Ends : goal.shape_of-values-in-Ends
-shape_of-values-in-Ends c =
+pub shape_of-values-in-Break : goal.shape_of-values-in-Break
+shape_of-values-in-Break c =
     c.next_call.auto.values ∙ c.loop-tally.invariant.0.running.values_len
 
-pub returns-in-Ends : goal.returns-in-Ends
-returns-in-Ends c =
+pub returns-in-Break : goal.returns-in-Break
+returns-in-Break c =
     let p = c.requires.0.over in
     let w = c.loop-tally.invariant.0 in
     let l = w.running in
     let ensured = rw l.status_len at c.next_call.ensures.0 in
     record {
-      ends = λ v. going_end p.allowed.some l.going ensured c.in-Ends.is v;
+      ends = λ v. going_end p.allowed.some l.going ensured c.in-Break.is v;
       records =
           λ v x. kept_end p.allowed.some l.going ensured c.loop-tally-test.true w.shown
-          c.in-Ends.is v x;
+          c.in-Break.is v x;
     }
 
 pub shape_of-status : goal.shape_of-status

@@ -8,7 +8,8 @@ use Rattle.calls.proofs.next.run_calls.Given as goal
 abbrev pub invariant-loop-tally : goal.invariant-loop-tally
 invariant-loop-tally l = Kept l.entries l.limits l.first l.initial.tally l.initial.status l.initial.calls l.initial.ways l.initial.log l.initial.values
     l.tally l.status l.calls l.ways l.log l.values
-    × BoardKept (length l.initial.status) l.entries l.starts l.lists l.holders l.marks l.shown l.keys l.hot l.trail
+    × BoardKept (length l.initial.status) l.entries l.room.lists.now l.room.holders.now l.room.marks.now
+    l.room.board.values.now l.room.board.keys.now l.room.board.hot.now l.room.board.trail.now
 
 abbrev pub decreases-loop-tally : goal.decreases-loop-tally
 decreases-loop-tally l = l.tally.candidates

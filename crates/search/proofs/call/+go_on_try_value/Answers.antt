@@ -1,54 +1,56 @@
 -- The goals of the cycle of calls {go_on, try_value} over the board. Each way out is a law of OnBoardLaws. Assumes nothing.
 use mathlib.Core.Path.{refl, sym, ◌∙◌}
 use native.Mathlib.Omega.{arith}
-use lib.ListN.{take}
 use Rattle.search.proofs.CallLaws.{choice_none}
-use Rattle.search.proofs.OnBoardLaws.{first, turns_less, back_asks, went_clash, closed_below, went_model}
+use Rattle.search.proofs.OnBoardLaws.{first, turns_less, back_asks, went_clash, closed_few, closed_below, went_model}
 use Rattle.search.proofs.OnBoardLaws.{turn_begins, turn_falls, turn_asks, turn_again, turn_went}
 use Rattle.search.proofs.OnBoardLaws.{tried_stopped, literal_asks, set_falls, go_over, try_asks, tried_back}
+use Rattle.search.proofs.BoardLaws.{same_self, same_then}
 use Rattle.search.proofs.call.+go_on_try_value.Goals as goal
 
-pub go_on-close_in-closing-requires : goal.go_on-close_in-closing-requires
-go_on-close_in-closing-requires t c =
-    record { fits = c.requires.fits; over = c.requires.over.board }
+pub go_on-close-requires : goal.go_on-close-requires
+go_on-close-requires t c =
+    c.requires.board
 
 pub go_on-take_back-requires : goal.go_on-take_back-requires
 go_on-take_back-requires t c =
-    record { fits = c.requires.fits; over = back_asks c.args.meter c.requires.over c.close_in-closing.ensures }
+    back_asks c.args.meter c.requires c.close.ensures.done
 
 pub go_on-returns-in-Clash : goal.go_on-returns-in-Clash
 go_on-returns-in-Clash t c =
-    went_clash c.args.meter c.requires.over c.close_in-closing.ensures c.in-Clash.is c.take_back.ensures
-
-pub go_on-choice_in-requires : goal.go_on-choice_in-requires
-go_on-choice_in-requires t c =
     record {
-      few = c.requires.fits.vars_fit;
-      below = closed_below c.args.meter c.requires.over c.close_in-closing.ensures c.in_default.is;
+      done =
+          went_clash c.args.meter c.requires c.close.ensures.done c.in-Clash.is c.take_back.ensures.done;
+      same = same_then c.close.ensures.same c.take_back.ensures.same;
     }
 
-pub go_on-returns-in_default-choice_in : goal.go_on-returns-in_default-choice_in
-go_on-returns-in_default-choice_in t c =
-    went_model c.args.meter c.requires.over c.close_in-closing.ensures c.in_default.is
-    (choice_none (take c.args.vars c.close_in-closing.new.values) (sym c.choice_in.ensures ∙ c.in_default-choice_in.is))
+pub go_on-lowest_from-requires : goal.go_on-lowest_from-requires
+go_on-lowest_from-requires t c =
+    (closed_few c.args.meter c.requires c.close.ensures.done c.in_default.is, closed_below c.args.meter c.requires c.close.ensures.done c.in_default.is)
+
+pub go_on-returns-in_default-lowest_from : goal.go_on-returns-in_default-lowest_from
+go_on-returns-in_default-lowest_from t c =
+    record {
+      done =
+          went_model c.args.meter c.requires c.close.ensures.done c.in_default.is
+          (choice_none c.close.new.board.values.now (sym c.lowest_from.ensures ∙ c.in_default-lowest_from.is));
+      same = c.close.ensures.same;
+    }
 
 pub go_on-loop-value-init : goal.go_on-loop-value-init
 go_on-loop-value-init t c =
-    first refl refl refl refl refl refl
+    (first refl refl refl refl refl refl, same_self)
 
 pub go_on-try_value-end-requires : goal.go_on-try_value-end-requires
 go_on-try_value-end-requires t c = (
   omega (
     arith,
     c.decreases,
-    turn_falls c.args.meter c.requires.over c.close_in-closing.ensures c.in_default.is c.in-Some.v
-        (sym c.choice_in.ensures ∙ c.in-Some.is) c.loop-value.invariant,
+    turn_falls c.args.meter c.requires c.close.ensures.done c.in_default.is c.in-Some.v
+        (sym c.lowest_from.ensures ∙ c.in-Some.is) c.loop-value.invariant.0,
   ),
-  record {
-    fits = c.requires.fits;
-    over = turn_begins c.args.meter c.requires.over c.close_in-closing.ensures c.in_default.is c.in-Some.v
-        (sym c.choice_in.ensures ∙ c.in-Some.is) c.loop-value.invariant;
-  },
+  turn_begins c.args.meter c.requires c.close.ensures.done c.in_default.is c.in-Some.v
+      (sym c.lowest_from.ensures ∙ c.in-Some.is) c.loop-value.invariant.0,
 )
 
 pub go_on-loop-value-smaller : goal.go_on-loop-value-smaller
@@ -56,52 +58,63 @@ go_on-loop-value-smaller t c =
     turns_less c.try_value-end.result.outcome c.loop-value.value (sym c.goes_again.ensures ∙ c.if-goes_again.true)
 
 pub go_on-loop-value-preserved : goal.go_on-loop-value-preserved
-go_on-loop-value-preserved t c =
-    turn_again c.args.meter c.requires.over c.close_in-closing.ensures c.in_default.is c.in-Some.v
-    (sym c.choice_in.ensures ∙ c.in-Some.is) c.loop-value.invariant c.try_value-end.ensures
-    (sym c.goes_again.ensures ∙ c.if-goes_again.true)
+go_on-loop-value-preserved t c = (
+  turn_again c.args.meter c.requires c.close.ensures.done c.in_default.is c.in-Some.v
+      (sym c.lowest_from.ensures ∙ c.in-Some.is) c.loop-value.invariant.0 c.try_value-end.ensures.done
+      (sym c.goes_again.ensures ∙ c.if-goes_again.true),
+  same_then c.loop-value.invariant.1 c.try_value-end.ensures.same,
+)
 
 pub go_on-take_back-requires-else-goes_again : goal.go_on-take_back-requires-else-goes_again
 go_on-take_back-requires-else-goes_again t c =
-    record {
-      fits = c.requires.fits;
-      over = turn_asks c.args.meter c.requires.over c.close_in-closing.ensures c.in_default.is c.in-Some.v
-          (sym c.choice_in.ensures ∙ c.in-Some.is) c.loop-value.invariant c.try_value-end.ensures;
-    }
+    turn_asks c.args.meter c.requires c.close.ensures.done c.in_default.is c.in-Some.v
+    (sym c.lowest_from.ensures ∙ c.in-Some.is) c.loop-value.invariant.0 c.try_value-end.ensures.done
 
 pub go_on-returns-else-goes_again : goal.go_on-returns-else-goes_again
 go_on-returns-else-goes_again t c =
-    turn_went c.args.meter c.requires.over c.close_in-closing.ensures c.in_default.is c.in-Some.v
-    (sym c.choice_in.ensures ∙ c.in-Some.is) c.loop-value.invariant c.try_value-end.ensures
-    (sym c.goes_again.ensures ∙ c.if-goes_again.false) c.take_back-else-goes_again.ensures
+    record {
+      done =
+          turn_went c.args.meter c.requires c.close.ensures.done c.in_default.is c.in-Some.v
+          (sym c.lowest_from.ensures ∙ c.in-Some.is) c.loop-value.invariant.0 c.try_value-end.ensures.done
+          (sym c.goes_again.ensures ∙ c.if-goes_again.false) c.take_back-else-goes_again.ensures.done;
+      same = same_then c.close.ensures.same (same_then c.loop-value.invariant.1 (same_then c.try_value-end.ensures.same c.take_back-else-goes_again.ensures.same));
+    }
 
 pub try_value-returns-in_default : goal.try_value-returns-in_default
 try_value-returns-in_default t c =
-    tried_stopped c.args.meter c.args.value c.requires.over (sym c.ask_try.ensures ∙ c.in_default.is)
+    record {
+      done =
+          tried_stopped c.args.meter c.args.value c.requires (sym c.ask_try.ensures ∙ c.in_default.is);
+      same = same_self;
+    }
 
 pub try_value-literal_of-requires : goal.try_value-literal_of-requires
 try_value-literal_of-requires t c =
-    (c.requires.over.variable.some, omega (arith, c.requires.over.variable.most, c.requires.over.board.shows.small.vars_fit))
+    (c.requires.variable.some, omega (arith, c.requires.variable.most, c.requires.board.shows.small.vars_fit))
 
-pub try_value-set_in-requires : goal.try_value-set_in-requires
-try_value-set_in-requires t c =
-    record { fits = c.requires.fits; over = rw c.literal_of.ensures (literal_asks c.args.meter c.args.value c.requires.over) }
+pub try_value-set_literal-requires : goal.try_value-set_literal-requires
+try_value-set_literal-requires t c =
+    rw c.literal_of.ensures (literal_asks c.args.meter c.args.value c.requires)
 
 pub try_value-go_on-end-requires : goal.try_value-go_on-end-requires
 try_value-go_on-end-requires t c =
-    let done = rw c.literal_of.ensures at c.set_in.ensures in (
-      omega (arith, c.decreases, set_falls c.args.meter c.args.value c.requires.over done),
-      record { fits = c.requires.fits; over = go_over c.args.meter c.args.value c.requires.over done },
+    let done = rw c.literal_of.ensures at c.set_literal.ensures.done in (
+      omega (arith, c.decreases, set_falls c.args.meter c.args.value c.requires done),
+      go_over c.args.meter c.args.value c.requires done,
     )
 
 pub try_value-take_back-requires : goal.try_value-take_back-requires
 try_value-take_back-requires t c =
-    let done = rw c.literal_of.ensures at c.set_in.ensures in
+    let done = rw c.literal_of.ensures at c.set_literal.ensures.done in
     let given = sym c.ask_try.ensures ∙ c.in-Some.is in
-    record { fits = c.requires.fits; over = try_asks c.args.meter c.args.value c.requires.over done given c.go_on-end.ensures }
+    try_asks c.args.meter c.args.value c.requires done given c.go_on-end.ensures.done
 
 pub try_value-returns : goal.try_value-returns
 try_value-returns t c =
-    let done = rw c.literal_of.ensures at c.set_in.ensures in
+    let done = rw c.literal_of.ensures at c.set_literal.ensures.done in
     let given = sym c.ask_try.ensures ∙ c.in-Some.is in
-    tried_back c.args.meter c.args.value c.requires.over done given c.go_on-end.ensures c.take_back.ensures
+    record {
+      done =
+          tried_back c.args.meter c.args.value c.requires done given c.go_on-end.ensures.done c.take_back.ensures.done;
+      same = same_then c.set_literal.ensures.same (same_then c.go_on-end.ensures.same c.take_back.ensures.same);
+    }

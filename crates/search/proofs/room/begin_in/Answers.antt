@@ -23,4 +23,4 @@ begin_used-requires c =
 
 pub returns : goal.returns
 returns c =
-    begun_kept c.begin_used.new.values c.begin_used.new.keys c.begin_used.ensures
+    record { begun = c.begin_used.ensures; kept = begun_kept c.begin_used.ensures }

@@ -10,15 +10,15 @@ loop-i-init c =
 pub returns-then-values-i-eq0 : goal.returns-then-values-i-eq0
 returns-then-values-i-eq0 c =
     rw (
-      passed_unset c.args.values.now c.loop-i.i c.loop-i-test.true c.loop-i.invariant
+      passed_unset c.args.board.now.values.now c.loop-i.i c.loop-i-test.true c.loop-i.invariant
           c.if-values-i-eq0.true,
       add-one,
     )
 
 pub loop-i-preserved : goal.loop-i-preserved
 loop-i-preserved c =
-    passed_step c.args.values.now c.loop-i.i c.loop-i-test.true c.loop-i.invariant c.if-values-i-eq0.false
+    passed_step c.args.board.now.values.now c.loop-i.i c.loop-i-test.true c.loop-i.invariant c.if-values-i-eq0.false
 
 pub returns : goal.returns
 returns c =
-    rw (passed_done c.args.values.now c.loop-i.i c.loop-i-test.false c.loop-i.invariant)
+    rw (passed_done c.args.board.now.values.now c.loop-i.i c.loop-i-test.false c.loop-i.invariant)

@@ -1,37 +1,32 @@
--- `search::whole::whole_close` meets its contract: there is room for as many entries, clauses and variables as there may be.
--- Assumes nothing.
-use mathlib.Core.Path.{refl, sym}
-use Prim.Native.Nat.{◌≤◌}
+-- `search::whole::whole_close` meets its contract: the board is begun, with no constraint, and closed. Assumes nothing.
+use mathlib.Core.Path.{sym}
 use native.Mathlib.Omega.{arith}
-use lib.ListN.{length}
 use lib.Seq.{length-take-le}
 use Rattle.formula.proofs.ClauseLaws.{length_starts}
 use Rattle.board.proofs.ConstraintLaws.{blank_at}
-use Rattle.search.proofs.WholeLaws.{begin_room}
+use Rattle.search.proofs.WholeLaws.{close_goes, close_length, close_ends}
 use Rattle.search.proofs.whole.whole_close.Goals as goal
+
+pub begin_in-requires : goal.begin_in-requires
+begin_in-requires c =
+    record { formula = c.requires; cold = blank_at 41 }
 
 pub slice_bounds-keys-end : goal.slice_bounds-keys-end
 slice_bounds-keys-end c =
-    let many : length c.args.starts.now ≤ 1281 =
-    omega (arith, length_starts c.requires, c.requires.clauses_most) in
-    many
+    omega (arith, length_starts c.requires, c.requires.clauses_most)
 
-pub slice_bounds-close_in_room-end-7 : goal.slice_bounds-close_in_room-end-7
-slice_bounds-close_in_room-end-7 c =
-    let many : length c.args.starts.now ≤ 1281 =
-    omega (arith, length_starts c.requires, c.requires.clauses_most) in
-    sym (length-take-le _ _ many)
+pub slice_bounds-board-end-2 : goal.slice_bounds-board-end-2
+slice_bounds-board-end-2 c =
+    sym (length-take-le _ _ (omega (arith, length_starts c.requires, c.requires.clauses_most)))
 
-pub close_in_room-requires : goal.close_in_room-requires
-close_in_room-requires c =
-    let many : length c.args.starts.now ≤ 1281 =
-    omega (arith, length_starts c.requires, c.requires.clauses_most) in
-    record {
-      formula = c.requires;
-      begins =
-          begin_room c.requires refl (blank_at 512) refl refl refl refl refl refl (sym (length-take-le _ _ many)) refl (blank_at 41) refl;
-    }
+pub close-closing-requires : goal.close-closing-requires
+close-closing-requires c =
+    close_goes c.requires c.begin_in.ensures.begun
+
+pub copy_values-requires : goal.copy_values-requires
+copy_values-requires c =
+    sym (close_length c.requires c.begin_in.ensures.begun _ c.close-closing.ensures.same.values)
 
 pub returns : goal.returns
 returns c =
-    c.close_in_room.ensures
+    close_ends c.requires c.begin_in.ensures.begun c.close-closing.ensures.done c.copy_values.ensures
