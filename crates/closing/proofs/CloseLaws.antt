@@ -1,21 +1,19 @@
 -- The laws of what follows at once: the end of the closing, and what is refused and accepted.
 --
---   told_clash, told_closed       what an end says
 --   done_told                     the end of the closing of a list, told, is what is defined
 --   closes_refused, closes_accepted     what is returned and written
 --
 -- Assumes nothing.
-use mathlib.Core.Path.{◌≡◌, refl, sym, ◌∙◌, ap}
+use mathlib.Core.Path.{◌≡◌, sym, ◌∙◌, ap}
 use mathlib.Core.List.{List, ◌++◌}
 use mathlib.Core.Option.{Option}
 use Prim.Native.Nat.{ℕ}
 use lib.IntN.{ℤ}
-use lib.ListN.{length, take, drop, replicate}
+use lib.ListN.{length, take, drop}
 use lib.Seq.{length-take-le}
 use Rattle.rules.specs.declared.Refusal.{Refusal}
 use Rattle.rules.specs.declared.CloseAnswer.{CloseAnswer}
 use Rattle.rules.specs.declared.CloseReport.{CloseReport}
-use Rattle.rules.specs.Lists.{is_set, count}
 use Rattle.rules.specs.Meaning.{Clause, Values, clauses}
 use Rattle.rules.specs.Closing.{Closed, closing}
 use Rattle.rules.specs.Rounds.{rounds}
@@ -28,7 +26,6 @@ use Rattle.rules.proofs.SetupTheorems.{refusal_same}
 use Rattle.std.specs.Prelude.{Ok, Err}
 use Rattle.refusals.specs.Refuse.{found}
 use Rattle.board.specs.declared.close.Closing.{Closing}
-use Rattle.board.specs.declared.close.Closing.TheVariants.{Clash, Closed as AllClosed}
 use Rattle.board.specs.Closings.{closed_of, rounds_of}
 use Rattle.search.specs.Wholes.{ClosesBy}
 use Rattle.backbone.proofs.RunLaws as run-laws
@@ -36,14 +33,6 @@ use Rattle.setup.proofs.SetupLaws.{open_run}
 use Rattle.closing.specs.Ended.{Told, CloseDone}
 
 -- ---- the end of the closing
-
-pub told_clash : {end : Closing} {n : ℕ} {vs after : Values} → end ≡ Clash n → after ≡ replicate (length vs) 0
-    → Told end vs (record { answer = CloseAnswer.Clash; rounds = n; set = 0 }) after
-told_clash e f = rw e (record { result_is = refl; after_is = f })
-
-pub told_closed : {end : Closing} {n k : ℕ} {vs : Values} → end ≡ AllClosed n → k ≡ count is_set vs
-    → Told end vs (record { answer = CloseAnswer.Closed; rounds = n; set = k }) vs
-told_closed e f = rw (e, f) (record { result_is = refl; after_is = refl })
 
 -- after a clash the values that were left do not count
 closed_values : (n : ℕ) (r : Closing) (before : Values) {c : Closed} → c ≡ closed_of r before → close_values n (closed_of r before) ≡ close_values n c

@@ -4,8 +4,7 @@
 --   folded_says       the whole text
 --   literal-signed    a literal is its variable's number with its sign
 --   header_line_lem, empty_says   the fields of the header line, and the text of one empty clause
---   unit_some, unit_none      the line of a variable by whether it is forced
---   stays-set, stays_unset    a literal stays, by the two tests
+--   unit_some      the line of a variable by whether it is forced
 --   literal_at_lem        the piece of the literal at an index
 --   line_gone, line_other      the line of a clause by whether it holds a forced literal
 --   clause_at_lem, other_at        the clause at an index, as it is looked up by its number
@@ -219,19 +218,6 @@ empty_says vars = append_assoc (plain_header vars 1) (10 ∷ []) (48 ∷ 10 ∷ 
 pub unit_some : (n b : ℕ) → b ≢ 0 → signed (eqb b 1) n ++ (32 ∷ 48 ∷ 10 ∷ []) ≡ unit_line n b
 unit_some n zero h = absurd (h refl)
 unit_some n (suc b) h = refl
-
-pub unit_none : (n b : ℕ) → b ≡ 0 → [] ≡ unit_line n b
-unit_none n b e = rw e
-
--- a literal stays, by the two tests
-pub stays-set : (vs : Values) (before : Clause) (l : ℤ) (b : Bool) → b ≡ is_unset vs l → not b ≡ true → false ≡ stays vs before l
-stays-set vs before l true e h = absurd (never h refl)
-stays-set vs before l false e h = ap (λ (u : Bool). u && not (any (eqz l) before)) e
-
-pub stays_unset : (vs : Values) (before : Clause) (l : ℤ) (b c : Bool) → b ≡ is_unset vs l → not b ≡ false → c ≡ any (eqz l) before
-    → not c ≡ stays vs before l
-stays_unset vs before l true c e h f = ap₂ (λ (u d : Bool). u && not d) e f
-stays_unset vs before l false c e h f = absurd (never refl h)
 
 pub literal_at_lem : (vs : Values) (cl : Clause) (i : ℕ) (l : ℤ) → literal_piece vs cl (i + 1) l ≡ literal_if (stays vs (take i cl) l) l
 literal_at_lem vs cl i l = rw (add-one i)

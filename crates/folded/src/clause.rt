@@ -17,15 +17,7 @@ use rules::Lit;
 fn has_literal(clause: &[i32], l: Lit) -> bool
     ensures { result ≡ any (eqz l.0) clause.now }
 {
-    let mut i = 0;
-    while i < clause.len() {
-        let k = clause[i];
-        if k == l.0 {
-            return true;
-        }
-        i += 1;
-    }
-    false
+    clause.contains(&l.0)
 }
 
 // Whether a literal stays: its variable is not forced, and it does not stand before.
@@ -76,11 +68,8 @@ fn put_literals(out: &mut [u8], at: usize, clause: &[i32], values: &[u8]) -> usi
         result out.new }
 {
     let mut next = at;
-    let mut i: usize = 0;
-    while i < clause.len() {
-        let l = Lit(clause[i]);
-        next = put_if_stays(out, next, &clause[..i], l, values);
-        i += 1;
+    for (i, &entry) in clause.iter().enumerate() {
+        next = put_if_stays(out, next, &clause[..i], Lit(entry), values);
     }
     next
 }

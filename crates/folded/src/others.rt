@@ -1,6 +1,6 @@
 // The clauses that hold no forced literal, counted and put.
-ghost use Rattle.std.specs.Prelude.{◌≡◌, [], ◌<◌, length};
-ghost use Rattle.rules.specs.Lists.{count, count_if, pieces};
+ghost use Rattle.std.specs.Prelude.{◌≡◌, [], length};
+ghost use Rattle.rules.specs.Lists.{count, pieces};
 ghost use Rattle.rules.specs.Meaning.{clauses};
 ghost use Rattle.formula.specs.Formula.{Formula};
 ghost use Rattle.formula.specs.Starts.{clause_at};
@@ -23,19 +23,6 @@ fn is_other(entries: &[i32], starts: &[u16], n: ClauseNo, values: &[u8]) -> bool
     !has_true(clause, values)
 }
 
-// One more if it is so.
-// Rules out: one more if it is not; two more.
-// Required of: count_others, with fewer clauses than that.
-fn counted_if(n: usize, is: bool) -> usize
-    requires { n < 65536 }
-    ensures { result ≡ count_if is n }
-{
-    if is {
-        return n + 1;
-    }
-    n
-}
-
 // How many clauses hold no forced literal.
 // Rules out: those that do; one too few.
 // Required of: put_folded, for its formula.
@@ -43,13 +30,11 @@ pub fn count_others(entries: &[i32], starts: &[u16], values: &[u8]) -> usize
     requires { Formula (length values.now) entries.now starts.now }
     ensures { result ≡ count (is_other values.now) (clauses entries.now) }
 {
-    let last = starts.len() - 1;
     let mut others: usize = 0;
-    let mut i: usize = 0;
-    while i < last {
-        let is = is_other(entries, starts, ClauseNo(i as u32 + 1), values);
-        others = counted_if(others, is);
-        i += 1;
+    for i in 0..starts.len() - 1 {
+        if is_other(entries, starts, ClauseNo(i as u32 + 1), values) {
+            others += 1;
+        }
     }
     others
 }
@@ -91,12 +76,9 @@ pub fn put_others(
         × Room at (pieces (other_line values.now) 1 (clauses entries.now)) out.old }
     ensures { Put at (pieces (other_line values.now) 1 (clauses entries.now)) out.old result out.new }
 {
-    let last = starts.len() - 1;
     let mut next = at;
-    let mut i: usize = 0;
-    while i < last {
+    for i in 0..starts.len() - 1 {
         next = put_other(out, next, entries, starts, ClauseNo(i as u32 + 1), values);
-        i += 1;
     }
     next
 }

@@ -30,10 +30,8 @@ pub fn put_units(out: &mut [u8], at: usize, values: &[u8]) -> usize
     ensures { Put at (pieces unit_line 1 values.now) out.old result out.new }
 {
     let mut next = at;
-    let mut i: usize = 0;
-    while i < values.len() {
-        next = put_unit(out, next, Var(i as u32 + 1), values[i]);
-        i += 1;
+    for (i, &byte) in values.iter().enumerate() {
+        next = put_unit(out, next, Var(i as u32 + 1), byte);
     }
     next
 }

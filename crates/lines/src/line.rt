@@ -97,10 +97,8 @@ pub fn put_lines(out: &mut [u8], at: usize, status: &[u8], hints: &[u32]) -> usi
     ensures { Put at (status_lines 1 status.now hints.now) out.old result out.new }
 {
     let mut next = at;
-    let mut i: usize = 0;
-    while i < status.len() {
-        next = put_variable(out, next, rules::Var(i as u32 + 1), status[i], hints[i]);
-        i += 1;
+    for (i, &byte) in status.iter().enumerate() {
+        next = put_variable(out, next, rules::Var(i as u32 + 1), byte, hints[i]);
     }
     next
 }

@@ -40,10 +40,8 @@ fn put_literals(out: &mut [u8], at: usize, bits: &[u8]) -> usize
     ensures { Put at (pieces model_literal 1 bits.now) out.old result out.new }
 {
     let mut next = at;
-    let mut i: usize = 0;
-    while i < bits.len() {
-        next = put_literal(out, next, rules::Var(i as u32 + 1), bits[i]);
-        i += 1;
+    for (i, &bit) in bits.iter().enumerate() {
+        next = put_literal(out, next, rules::Var(i as u32 + 1), bit);
     }
     next
 }

@@ -13,7 +13,7 @@ use mathlib.Core.List.{List, [], ◌++◌, map}
 use Prim.Native.Nat.{ℕ, zero, suc, ◌+◌, ◌-◌, ◌≤◌, ◌<◌}
 use native.Mathlib.Omega.{arith}
 use lib.IntN.{ℤ}
-use lib.ListN.{length, get_or, set, take, drop, replicate, length-replicate, get_or-replicate, get_or-append}
+use lib.ListN.{length, get_or, set, take, drop, replicate}
 use lib.Seq.{set-set, set-get_or, get_or-set_other}
 use Rattle.rules.specs.declared.Outcome.{Outcome}
 use Rattle.rules.specs.declared.WhyAnswer.{WhyAnswer}
@@ -170,15 +170,6 @@ pub second_marks : (n : ℕ) {before after : List ℕ} → before ≡ replicate 
 second_marks n {before} {after} z len e =
     e ∙ ap (λ (ms : List ℕ). replicate n 1 ++ drop n ms) (z ∙ ap (λ (k : ℕ). replicate k 0) len) ∙
     ap (λ (ms : List ℕ). replicate n 1 ++ ms) (drop_zeros max_clauses n)
-
-pub first_below : (n : ℕ) {ms : List ℕ} → ms ≡ first_marks n → MarkedBelow ms n
-first_below n e =
-    record {
-      below =
-          λ i h. rw e
-          (get_or-append (replicate n 1) (replicate (max_clauses - n) 0) 0 i (omega (arith, length-replicate {A = ℕ} n 1)) ∙
-          get_or-replicate n i 1 0 h);
-    }
 
 module _ (es : List ℤ) (vars : ℕ) (l : ℤ) (m : Meter) {ms : List ℕ} {r : CallEnd} {after : List ℕ} (f : ms ≡ first_marks (length (clauses es)))
     (d : CallEnds (marked_call (marked ms (clauses es)) vars l m) (blank vars) m.budget r after) where

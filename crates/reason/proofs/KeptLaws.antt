@@ -2,7 +2,7 @@
 --
 --   clauses-marked    their clauses are the marked ones
 --   marked_in, length-markedEntries, length_marked     they are entries of the list, and no more
---   Puts, puts_start, puts_clause, puts_room, puts_zero, puts_other, puts_done     the loop that puts them
+--   Puts, puts_clause, puts_room, puts_zero, puts_other, puts_done     the loop that puts them
 --
 -- Assumes nothing.
 use mathlib.Core.Path.{◌≡◌, refl, sym, ◌∙◌, ap}
@@ -14,7 +14,7 @@ use Prim.Native.Nat.{ℕ, zero, suc, ◌+◌, ◌≤◌, ◌<◌}
 use native.Mathlib.Omega.{arith}
 use native.Mathlib.Numerals.{add-one}
 use lib.IntN.{ℤ, pos, negsuc}
-use lib.ListN.{get_or, length, take, drop, replicate, length-set, drop_of_length-le}
+use lib.ListN.{get_or, length, take, drop, length-set, drop_of_length-le}
 use lib.Seq.{drop-cons, take-suc-set, append_snoc}
 use Rattle.rules.specs.Lists.{In}
 use Rattle.rules.specs.Meaning.{Clause, leading, clauses}
@@ -90,9 +90,6 @@ pub record Puts (es : List ℤ) (ms : List ℕ) (before now : List ℤ) (k n i :
   pub ended : is_ended (drop i es) ≡ true
   pub counted : k + length (clauses (drop i es)) ≡ length (clauses es)
   pub written : take n now ++ marked_entries (drop k ms) (drop i es) ≡ marked_entries ms es
-
-pub puts_start : {es : List ℤ} {ms : List ℕ} {before : List ℤ} → MarkRoom es ms before → Puts es ms before before 0 0 0
-puts_start w = record { passed = omega arith; few = omega arith; len = refl; ended = w.ended; counted = omega arith; written = refl }
 
 -- one entry is put, or not
 put_one : (m : ℕ) (e : ℤ) (n : ℕ) (now rest : List ℤ) → n < length now
@@ -191,9 +188,3 @@ puts_done {es} {ms} {now = now} {k} {n} {i} w h =
           rw (drop_of_length-le es h) at w.written;
       within = omega (arith, w.few, w.passed);
     }
-
--- ---- marks
-
-ones_snoc : (i : ℕ) (rest : List ℕ) → replicate i 1 ++ 1 ∷ rest ≡ replicate (suc i) 1 ++ rest
-ones_snoc zero rest = refl
-ones_snoc (suc i) rest = ap (λ (xs : List ℕ). 1 ∷ xs) (ones_snoc i rest)

@@ -1,13 +1,12 @@
 -- The laws of specs/Filter: freeing one index after the other is freeing them all.
 --
 --   opens-set         one open variable that is freed is one open variable less
---   drops_open, drops_closed     one index: open and passing, not open, not passing
---   Filtering, filtering_start, filtering_step, filtering_done     the loop of compare and of flip
+--   drops_open     one index: open and passing, not open, not passing
+--   Filtering, filtering_step, filtering_done     the loop of compare and of flip
 --
 -- Assumes nothing.
 use mathlib.Core.Path.{◌≡◌, refl, sym, ◌∙◌, ap}
-use mathlib.Core.Logic.{◌≢◌}
-use mathlib.Core.Bool.{Bool, true, false, not}
+use mathlib.Core.Bool.{Bool, true, not}
 use mathlib.Core.List.{List, [], ◌∷◌}
 use Prim.Native.Nat.{ℕ, zero, suc, ◌+◌, ◌≤◌, ◌<◌}
 use native.Mathlib.Omega.{arith}
@@ -15,7 +14,6 @@ use native.Mathlib.Nat.{add-zero, add-suc, suc-add, zero-add}
 use native.Mathlib.Numerals.{add-one}
 use lib.Dec.{eqb}
 use lib.ListN.{length, get_or, set, length-set}
-use lib.Seq.{set-get_or}
 use Rattle.rules.specs.Run.{opens, freed_if, freed_from, differs}
 use Rattle.rules.proofs.ListLaws.{get_d_default}
 use Rattle.steps.specs.Filter.{DropsAt, Drops}
@@ -28,17 +26,8 @@ opens-set (suc s ∷ ss) (suc i) h z = opens-set ss i (omega arith) z
 
 -- ---- one index
 
-freed_if_closed : (b : Bool) (s : ℕ) → s ≢ 0 → freed_if b s ≡ s
-freed_if_closed true zero h = absurd (h refl)
-freed_if_closed true (suc s) h = refl
-freed_if_closed false s h = refl
-
 pub drops_open : (ss : List ℕ) (i : ℕ) (b : Bool) → i < length ss → b ≡ true → get_or ss i 0 ≡ 0 → DropsAt i b ss 1 (set ss i 1)
 drops_open ss i b h e z = record { freed = rw (e, z); counted = opens-set ss i h z }
-
-pub drops_closed : (ss : List ℕ) (i : ℕ) (b : Bool) → get_or ss i 0 ≢ 0 → DropsAt i b ss 0 ss
-drops_closed ss i b n =
-    record { freed = sym (ap (set ss i) (freed_if_closed b (get_or ss i 0) n) ∙ set-get_or ss i 0); counted = omega arith }
 
 -- ---- freeing from index n on
 
@@ -66,9 +55,6 @@ pub record Filtering (p : ℕ → Bool) (before : List ℕ) (dropped i : ℕ) (n
   pub len : length now ≡ length before
   pub left : behind p 0 i now ≡ freed_from 0 p before
   pub counted : opens now + dropped ≡ opens before
-
-pub filtering_start : (p : ℕ → Bool) (ss : List ℕ) → Filtering p ss 0 0 ss
-filtering_start p ss = record { within = omega arith; len = refl; left = refl; counted = omega arith }
 
 pub filtering_step : {p : ℕ → Bool} {before now after : List ℕ} {dropped i r : ℕ} (b : Bool) → Filtering p before dropped i now → i < length now
     → p i ≡ b → DropsAt i b now r after → Filtering p before (dropped + r) (i + 1) after

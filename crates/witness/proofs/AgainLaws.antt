@@ -1,7 +1,7 @@
 -- The laws of specs/Again: what is read off the records and the log of a run is what a call has to be given in order to be made again.
 --
 --   kept_before_records     the statuses before a call, by the records
---   Keeping, keeping_start, keeping_step, keeping_done     the loop of `keep_before`
+--   Keeping, keeping_step, keeping_done     the loop of `keep_before`
 --   copied_values          a copy of the first model
 --   tries_more, tries_in_mono     one row more; fewer rows, no more tries
 --   column                 a number of a row in the log
@@ -66,9 +66,6 @@ pub record Keeping (n : ℕ) (calls before : List ℕ) (i : ℕ) (now : List ℕ
   pub within : i ≤ length now
   pub len : length now ≡ length before
   pub now_is : now ≡ part (kept_before n before calls) before i
-
-pub keeping_start : (n : ℕ) (calls before : List ℕ) → Keeping n calls before 0 before
-keeping_start n calls before = record { within = omega arith; len = refl; now_is = refl }
 
 pub keeping_step : {n : ℕ} {calls before : List ℕ} {i : ℕ} {now : List ℕ} {byte : ℕ} → length calls ≡ length before → Keeping n calls before i now
     → i < length now → byte ≡ status_if_before (ltb (get_or calls i 0) n) (get_or now i 0) → Keeping n calls before (i + 1) (set now i byte)

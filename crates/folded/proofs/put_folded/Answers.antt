@@ -1,5 +1,5 @@
 -- `put_folded` meets its contract: the header with the number of clauses, the forced literals, the clauses that hold none. Assumes nothing.
-use mathlib.Core.Path.{◌≡◌, sym, ap}
+use mathlib.Core.Path.{◌≡◌, ap}
 use mathlib.Core.List.{List, ◌++◌}
 use Prim.Native.Nat.{ℕ, ◌+◌}
 use native.Mathlib.Omega.{arith}
@@ -8,8 +8,7 @@ use Rattle.rules.specs.Lists.{pieces}
 use Rattle.rules.specs.Meaning.{clauses}
 use Rattle.rules.proofs.ListLaws.{count_le}
 use Rattle.rules.proofs.ClauseLaws.{clauses_le}
-use Rattle.buffers.specs.Put.{Room}
-use Rattle.buffers.proofs.PutLaws.{room_first, room_then, room_same, put_then, put_same}
+use Rattle.buffers.proofs.PutLaws.{put_then, put_same}
 use Rattle.folded.specs.Folded.{other_line, is_other, unit_line, header_text, folded_text}
 use Rattle.folded.proofs.put_folded.Goals as goal
 
@@ -24,55 +23,6 @@ overflow_add-forced c =
       c.requires.formula.entries_most,
       c.requires.forced_fit,
     )
-
-pub put_header-behind_header-requires : goal.put_header-behind_header-requires
-put_header-behind_header-requires c =
-    let header : List ℕ =
-    header_text (length c.args.values.now) (c.args.forced + c.count_others-count.result) in
-    let units : List ℕ =
-    pieces unit_line 1 c.args.values.now in
-    let others : List ℕ =
-    pieces (other_line c.args.values.now) 1 (clauses c.args.entries.now) in
-    let whole : let a = c.args in header ++ (units ++ others) ≡ folded_text a.values.now (clauses a.entries.now) a.forced =
-    let a = c.args in
-    ap (λ (n : ℕ). header_text (length a.values.now) (a.forced + n) ++ (units ++ others)) c.count_others-count.ensures in
-    let room : Room 0 (header ++ (units ++ others)) c.args.out.now =
-    room_same (sym whole) c.requires.room in
-    room_first header (units ++ others) room
-
-pub put_units-behind_units-requires : goal.put_units-behind_units-requires
-put_units-behind_units-requires c =
-    let header : List ℕ =
-    header_text (length c.args.values.now) (c.args.forced + c.count_others-count.result) in
-    let units : List ℕ =
-    pieces unit_line 1 c.args.values.now in
-    let others : List ℕ =
-    pieces (other_line c.args.values.now) 1 (clauses c.args.entries.now) in
-    let whole : let a = c.args in header ++ (units ++ others) ≡ folded_text a.values.now (clauses a.entries.now) a.forced =
-    let a = c.args in
-    ap (λ (n : ℕ). header_text (length a.values.now) (a.forced + n) ++ (units ++ others)) c.count_others-count.ensures in
-    let room : Room 0 (header ++ (units ++ others)) c.args.out.now =
-    room_same (sym whole) c.requires.room in
-    let room_header : Room c.put_header-behind_header.result (units ++ others) c.put_header-behind_header.new.out =
-    room_then header (units ++ others) room c.put_header-behind_header.ensures in
-    (room_first units others room_header, c.requires.formula.vars_fit)
-
-pub put_others-requires : goal.put_others-requires
-put_others-requires c =
-    let header : List ℕ =
-    header_text (length c.args.values.now) (c.args.forced + c.count_others-count.result) in
-    let units : List ℕ =
-    pieces unit_line 1 c.args.values.now in
-    let others : List ℕ =
-    pieces (other_line c.args.values.now) 1 (clauses c.args.entries.now) in
-    let whole : let a = c.args in header ++ (units ++ others) ≡ folded_text a.values.now (clauses a.entries.now) a.forced =
-    let a = c.args in
-    ap (λ (n : ℕ). header_text (length a.values.now) (a.forced + n) ++ (units ++ others)) c.count_others-count.ensures in
-    let room : Room 0 (header ++ (units ++ others)) c.args.out.now =
-    room_same (sym whole) c.requires.room in
-    let room_header : Room c.put_header-behind_header.result (units ++ others) c.put_header-behind_header.new.out =
-    room_then header (units ++ others) room c.put_header-behind_header.ensures in
-    (c.requires.formula, room_then units others room_header c.put_units-behind_units.ensures)
 
 pub returns : goal.returns
 returns c =

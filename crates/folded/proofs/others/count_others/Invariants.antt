@@ -1,6 +1,5 @@
--- `others::count_others` meets its contract. The invariant of its loop: those before i are counted. The measure is what is left.
+-- `others::count_others` meets its contract. The invariant of its loop: those before i are counted.
 -- Assumes nothing.
-use Prim.Native.Nat.{◌-◌}
 use Rattle.rules.specs.Meaning.{clauses}
 use Rattle.buffers.proofs.CountLaws.{Counting}
 use Rattle.folded.specs.Folded.{is_other}
@@ -8,6 +7,3 @@ use Rattle.folded.proofs.others.count_others.Given as goal
 
 abbrev pub invariant-loop-i : goal.invariant-loop-i
 invariant-loop-i l = Counting (is_other l.values) (clauses l.entries) l.i l.others
-
-abbrev pub decreases-loop-i : goal.decreases-loop-i
-decreases-loop-i l = l.last - l.i

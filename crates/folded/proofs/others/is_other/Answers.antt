@@ -6,7 +6,3 @@ pub has_true-requires : goal.has_true-requires
 has_true-requires c =
     let s = c.before in
     rw c.clause_in-clause.ensures (clause_of_up_to s.args.n.0 s.requires)
-
-pub returns : goal.returns
-returns c =
-    rw (c.has_true.ensures, c.clause_in-clause.ensures)

@@ -5,41 +5,20 @@ use Prim.Native.Nat.{◌<◌}
 use native.Mathlib.Omega.{arith}
 use lib.ListN.{length}
 use Rattle.rules.specs.Meaning.{clauses}
-use Rattle.rules.proofs.ClauseLaws.{clauses_le}
 use Rattle.formula.proofs.ClauseLaws.{length_starts}
 use Rattle.buffers.proofs.PutLaws.{room_same, put_same}
-use Rattle.buffers.proofs.PieceLaws.{piecing_start, piecing_room, piecing_step, piecing_done}
+use Rattle.buffers.proofs.PieceLaws.{piecing_room, piecing_step, piecing_done}
 use Rattle.folded.proofs.FoldedLaws.{other_at}
 use Rattle.folded.proofs.others.put_others.Goals as goal
 
-pub overflow_sub-last : goal.overflow_sub-last
-overflow_sub-last c =
+pub overflow_sub-i-end : goal.overflow_sub-i-end
+overflow_sub-i-end c =
     omega (arith, length_starts c.requires.0)
-
-pub loop-i-init : goal.loop-i-init
-loop-i-init c =
-    piecing_start c.requires.1
-
-pub overflow_cast-i : goal.overflow_cast-i
-overflow_cast-i c =
-    let more : c.loop-i.i < length (clauses c.args.entries.now) =
-    omega (arith, c.loop-i-test.true, length_starts c.requires.0) in
-    let small : c.loop-i.i < 65536 =
-    omega (arith, more, clauses_le c.args.entries.now, c.requires.0.entries_most) in
-    omega (arith, small)
-
-pub overflow_add-i : goal.overflow_add-i
-overflow_add-i c =
-    let more : c.loop-i.i < length (clauses c.args.entries.now) =
-    omega (arith, c.loop-i-test.true, length_starts c.requires.0) in
-    let small : c.loop-i.i < 65536 =
-    omega (arith, more, clauses_le c.args.entries.now, c.requires.0.entries_most) in
-    omega (arith, small)
 
 pub put_other-next-requires : goal.put_other-next-requires
 put_other-next-requires c =
     let more : c.loop-i.i < length (clauses c.args.entries.now) =
-    omega (arith, c.loop-i-test.true, length_starts c.requires.0) in
+    omega (arith, length_starts c.requires.0) in
     let i = c.loop-i.i in (
       record { formula = c.requires.0; some = omega arith; most = omega (arith, more) },
       room_same (sym (other_at c.args.entries.now i more c.args.values.now)) (piecing_room [] c.loop-i.invariant more),
@@ -48,13 +27,9 @@ put_other-next-requires c =
 pub loop-i-preserved : goal.loop-i-preserved
 loop-i-preserved c =
     let more : c.loop-i.i < length (clauses c.args.entries.now) =
-    omega (arith, c.loop-i-test.true, length_starts c.requires.0) in
+    omega (arith, length_starts c.requires.0) in
     piecing_step [] c.loop-i.invariant more
     (put_same (other_at c.args.entries.now c.loop-i.i more c.args.values.now) c.put_other-next.ensures)
-
-pub shape_of-out : goal.shape_of-out
-shape_of-out c =
-    c.loop-i.invariant.len
 
 pub returns : goal.returns
 returns c =

@@ -15,18 +15,6 @@ pub put_word-requires : goal.put_word-requires
 put_word-requires c =
     room_same (words c.args.hint c.args.status 0 c.if-status-eq0.true) c.requires
 
-pub returns-then-status-eq0 : goal.returns-then-status-eq0
-returns-then-status-eq0 c =
-    put_same (sym (words c.args.hint c.args.status 0 c.if-status-eq0.true)) c.put_word.ensures
-
-pub put_word-requires-then-status-eq1 : goal.put_word-requires-then-status-eq1
-put_word-requires-then-status-eq1 c =
-    room_same (words c.args.hint c.args.status 1 c.if-status-eq1.true) c.requires
-
-pub returns-then-status-eq1 : goal.returns-then-status-eq1
-returns-then-status-eq1 c =
-    put_same (sym (words c.args.hint c.args.status 1 c.if-status-eq1.true)) c.put_word-then-status-eq1.ensures
-
 pub put_field-requires : goal.put_field-requires
 put_field-requires c =
     room_same (words c.args.hint c.args.status 2 (omega arith)) c.requires
