@@ -7,6 +7,7 @@
 --   records_first     the records behind the first model
 --   done_by_row       the first call found no model, or was stopped
 --   first_at_lem, done_from_model, records_from_model     the first call found a model
+--   model_kept, settled, settled_at     where the first call has brought the run
 --   hints_done        the hints of the first model, or of none, are those of the rules
 --
 -- Assumes nothing.
@@ -40,16 +41,16 @@ use Rattle.search.specs.Rooms.{BoardKept}
 use Rattle.calls.specs.declared.after.Tally.{Tally}
 use Rattle.calls.specs.declared.after.Made.{Made}
 use Rattle.calls.specs.declared.next.Limits.{Limits}
-use Rattle.calls.specs.After.{Shows, EndsAt, RowRoom, RowLeft, TallyReady}
+use Rattle.calls.specs.After.{Shows, EndsAt, RowRoom, RowLeft, TallyReady, ModelLeft}
 use Rattle.calls.specs.Next.{At, task}
 use Rattle.calls.specs.Records.{ShowsRecords, RecordsLent}
 use Rattle.calls.proofs.RecordLaws.{records_model}
 use Rattle.steps.specs.Records.{RecordsPut}
 use Rattle.steps.specs.Hint.{hint_in, HintsPut}
 use Rattle.steps.proofs.HintLaws.{hints_of_total, hints_of_blank}
-use Rattle.calls.proofs.AfterLaws.{ends_row}
+use Rattle.calls.proofs.AfterLaws.{ends_row, shows_model}
 use Rattle.search.proofs.EndLaws.{was_otherwise}
-use Rattle.backbone.specs.First.{first_on, Cleared, started, RunDone, ListDone, HintsDone}
+use Rattle.backbone.specs.First.{first_on, Cleared, started, RunDone, ListDone, HintsDone, FirstFound}
 
 -- ---- the first model is kept
 
@@ -202,6 +203,26 @@ pub done_from_model : (k : Task) (m : Values) (t : ℕ) → first_call k ≡ mod
     → EndsAt k.vars (chunks k size (after_model k (begun k m) 0 m t)) r status log → RunDone k r status log
 done_from_model k m t e z w =
     rw (run_first k (model m t) e ∙ ap (λ (n : ℕ). chunks k n (after_model k (begun k m) 0 m t)) (sym z)) w
+
+-- the run where its first call has brought it: the model is kept, compared and flipped
+module _ {es : List ℤ} {starts : List ℕ} {values first : Values} {status calls ways log : List ℕ} {spent : ℕ} {limits : Limits}
+    (d : FirstFound es starts values first status calls ways log spent limits) where
+  abbrev found_task : Task
+  found_task = task es (length status) limits
+
+  module _ {kept : Values} (copied : kept ≡ take (length values) values ++ drop (length values) first) where
+    pub model_kept : kept ≡ values
+    model_kept = copied_whole values first (d.begins.first_len ∙ sym d.values_len) copied
+
+    module _ {t r : Tally} {values1 : Values} {status1 log1 : List ℕ} (q : t ≡ started (length values))
+        (x : ModelLeft (clauses es) kept values status log t (record { chunk = 0; spent = spent }) r values1 status1 log1) where
+      pub settled : (r.size ≡ 1) × Shows (length status) (after_model found_task (begun found_task values) 0 values spent) r kept status1 log1
+      settled =
+          shows_model found_task (begun found_task values) _
+          (shows_begun d.begins.cleared found_task values _ q refl model_kept d.values_len) (room_begun d.begins.cleared _ q) refl x
+
+      abbrev pub settled_at : At found_task r kept status1 log1
+      settled_at = first_at_lem found_task values spent d.found settled
 
 -- ---- the hints: of what the first call left where no value stood before
 

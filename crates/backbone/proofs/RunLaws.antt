@@ -4,7 +4,7 @@
 --   checked_is        what is checked is what a run is refused for
 --   runs_refused      a refused run: zero counts, and nothing is written
 --   runs_accepted     an accepted one: the run over the fronts of the buffers
---   accepted          what no rule refuses
+--   not_refused, accepted     what no rule refuses
 --   list, clauses_are, entries_most, is-formula, clauses_most, records_lent, hints_len, log_len, allowed     and what its run requires
 --
 -- Assumes nothing.
@@ -76,6 +76,11 @@ module _ (g : Given) where
         hints_are = ap (λ (r : Option Refusal). hints_if r (task_of g) g.hints) (sym o);
         log_is = ap (λ (r : Option Refusal). log_if r (task_of g) g.log) (sym o);
       }
+
+  -- what was checked, and came to this
+  pub not_refused : {bad short : Bool} {c : Result (Unit {0}) Refusal} → bad ≡ out_of_limits g.vars g.limit → short ≡ is_short g
+      → c ≡ found (first_of (taking_rules bad short g.entries g.vars g.held)) → c ≡ Ok tt → Ok tt ≡ found (refusal_of g)
+  not_refused b s e q = sym q ∙ checked_is b s e
 
   module _ (e : Ok tt ≡ found (refusal_of g)) where
     pub accepted : Accepted g

@@ -5,6 +5,7 @@ use Rattle.std.proofs.lemmas.List.Edits.{sets}
 use Rattle.rules.specs.Lists.{In}
 use Rattle.rules.specs.Numbers.{max_vars}
 use Rattle.rules.specs.Meaning.{Clause, LitUpTo, var_of, clauses}
+use Rattle.board.specs.declared.chain.Chains.{Chains}
 use Rattle.board.specs.Holders.{code_of, holding, part_at}
 
 -- the owners along a chain
@@ -25,6 +26,12 @@ pub data Links (k c m : ℕ) (heads nexts owners : List ℕ) : ℕ → List ℕ 
   first : get_or heads k 0 ≡ 0 → Links k c m heads nexts owners (m + 1) (set heads k (m + 1)) (set nexts m (get_or heads k 0)) (set owners m c)
   other : (j : ℕ) → get_or heads k 0 ≡ suc j → get_or owners j 0 ≢ c
       → Links k c m heads nexts owners (m + 1) (set heads k (m + 1)) (set nexts m (get_or heads k 0)) (set owners m c)
+
+-- the parts of chains that are lent keep their lengths
+pub record SameChains (before after : Chains) : Type 0 where
+  pub heads : length after.heads.now ≡ length before.heads.now
+  pub nexts : length after.nexts.now ≡ length before.nexts.now
+  pub owners : length after.owners.now ≡ length before.owners.now
 
 pub record LinkAsked (k m : ℕ) (heads nexts owners : List ℕ) : Type 0 where
   pub head : k < length heads

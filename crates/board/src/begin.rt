@@ -1,8 +1,9 @@
 // What a run begins with: the index of who holds a literal, made once, and the first board, with an empty constraint.
 ghost use Rattle.std.specs.Prelude.{length};
 ghost use Rattle.board.specs.Begins.{BeginAsked, Begun};
+ghost use Rattle.board.specs.Chains.{SameChains};
 
-use crate::chain::build_index;
+use crate::chain::{Chains, build_index};
 use crate::first::first_board;
 use crate::parts::Index;
 use buffers::clear::clear_bytes;
@@ -12,9 +13,7 @@ use buffers::clear::clear_bytes;
 // Required of: whoever begins a run, with room for the list.
 pub fn begin(
     entries: &[i32],
-    heads: &mut [u16],
-    nexts: &mut [u16],
-    owners: &mut [u16],
+    chains: &mut Chains,
     lists: &mut [u16],
     holders: &mut [u16],
     marks: &mut [u8],
@@ -24,13 +23,15 @@ pub fn begin(
     trail: &mut [u16],
     count: usize,
 )
-    requires { BeginAsked count entries.now heads.old nexts.old owners.old lists.old holders.old marks.old
+    requires { BeginAsked count entries.now chains.old.heads.now chains.old.nexts.now chains.old.owners.now
+        lists.old holders.old marks.old
         values.old keys.old hot.old trail.old }
-    ensures { Begun entries.now (length values.old) lists.new holders.new marks.new
+    ensures done { Begun entries.now (length values.old) lists.new holders.new marks.new
         values.new keys.new hot.new trail.new }
+    ensures same { SameChains chains.old chains.new }
 {
     let vars = values.len();
-    build_index(entries, heads, nexts, owners, lists, holders, vars, count);
+    build_index(entries, chains, lists, holders, vars, count);
     clear_bytes(marks);
     let index = Index {
         lists,

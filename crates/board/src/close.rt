@@ -27,6 +27,7 @@ pub fn close(view: &View, index: &Index, board: &mut Board, total: usize) -> Clo
     ensures same { SameRoom board.old board.new }
 {
     let mut rounds = 0;
+    // Stays a `loop`: rounds are made until one sets nothing.
     loop {
         rounds += 1;
         let Some(set) = round(view, index, board, total) else {

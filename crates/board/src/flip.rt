@@ -6,8 +6,8 @@ ghost use Rattle.formula.specs.Formula.{first_false_of};
 ghost use Rattle.board.specs.Flips.{FalseAsked, FirstsAsked, HeldOver, first_at};
 
 use crate::code::code_of;
+use formula::clause::clause_at;
 use formula::state::has_true;
-use formula::view::clause_in;
 use rules::{ClauseNo, Lit};
 
 // Whether the clause at an index is false under flipped values. Its key is that of the model: two true literals are enough.
@@ -20,13 +20,7 @@ fn is_false_at(entries: &[i32], starts: &[u16], keys: &[u32], values: &[u8], c: 
     if keys[c] >= 131072 {
         return false;
     }
-    let clause = clause_in(
-        entries,
-        values.len(),
-        starts,
-        &entries[..0],
-        ClauseNo(c as u32 + 1),
-    );
+    let clause = clause_at(entries, starts, &[], ClauseNo(c as u32 + 1));
     !has_true(clause, values)
 }
 

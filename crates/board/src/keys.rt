@@ -31,12 +31,10 @@ pub fn change_all(clauses: &[u16], keys: &mut [u32], hot: &mut [u16], add: u32, 
     requires { ChangesAsked add less clauses.now keys.old hot.old }
     ensures { Changed add less clauses.now keys.old keys.new hot.new }
 {
-    let mut k = 0;
-    while k < clauses.len() {
-        let i = clauses[k] as usize;
+    for clause in clauses {
+        let i = *clause as usize;
         let key = keys[i] + add - less;
         put_key(keys, hot, i, key);
-        k += 1;
     }
 }
 

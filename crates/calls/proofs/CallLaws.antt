@@ -4,6 +4,7 @@
 --   forced_small      the forced values are bytes that it may start from
 --   chunk_over        what the call needs
 --   chunk_clauses_lem, ends_same     the clauses of the call, and its end by them
+--   chunk_few, chunk_asks, chunk_from, chunk_ends     the call of a chunk: what each step requires, and what it ends with
 --   call_next         what comes of a call, whatever is done next
 --   size_le           a chunk size is within the limit
 --   tally_ready       there is room for one row more, and no count is out of range
@@ -16,14 +17,14 @@ use native.Mathlib.Omega.{arith}
 use lib.IntN.{ℤ}
 use lib.ListN.{length, get_or, take}
 use Rattle.rules.specs.Lists.{In}
-use Rattle.rules.specs.Numbers.{max_vars}
+use Rattle.rules.specs.Numbers.{max_vars, max_chunk}
 use Rattle.rules.specs.Meaning.{Clause, Values, var_of, negated, clauses, LitUpTo}
 use Rattle.rules.specs.Search.{Call, call_on}
-use Rattle.rules.specs.Run.{Task, Progress, status_at, opens, candidates_from, constraint, forced_values, chunk_call, Ended, on_call, on_open}
+use Rattle.rules.specs.Run.{Task, Progress, is_open, status_at, opens, candidates_from, constraint, forced_values, chunk_call, Ended, on_call, on_open}
 use Rattle.rules.specs.Trace.{Reached, first_model, next_model, next_none}
 use Rattle.rules.specs.Answer.{is_free, is_forced}
 use Rattle.rules.proofs.ListLaws.{map_in, in_take, count_le}
-use Rattle.rules.proofs.StatusLaws.{candidate_open, forced_value_le}
+use Rattle.rules.proofs.StatusLaws.{candidate_open, forced_value_le, length-forced_values}
 use Rattle.rules.proofs.KnownLaws.{first_model_is}
 use Rattle.rules.proofs.RunTrace.{doubled_is, known}
 use Rattle.rules.proofs.LogLaws.{calls_opens_le}
@@ -31,12 +32,15 @@ use Rattle.formula.specs.Clauses.{ClauseUpTo}
 use Rattle.formula.specs.Starts.{call_clauses}
 use Rattle.formula.specs.Formula.{Formula}
 use Rattle.formula.proofs.ClauseLaws.{call_clauses-constraint, length_starts}
+use Rattle.search.specs.declared.meter.Meter.{Meter}
 use Rattle.search.specs.declared.call.CallEnd.{CallEnd}
-use Rattle.search.specs.Calls.{CallOver, CallEnds}
+use Rattle.search.specs.Calls.{CallOver, Calls, CallEnds}
+use Rattle.search.specs.Wholes.{CallFrom}
 use Rattle.calls.specs.declared.after.Tally.{Tally}
 use Rattle.calls.specs.declared.after.Made.{Made}
 use Rattle.calls.specs.After.{TallyReady}
-use Rattle.calls.specs.Next.{At}
+use Rattle.calls.specs.Next.{At, ChunkOver, ChunkCalled}
+use Rattle.steps.specs.Constraint.{ConstraintOver, ConstraintPut}
 use Rattle.steps.proofs.ConstraintLaws.{var_of_false}
 use Rattle.calls.proofs.AfterLaws.{length-log_of_rows}
 
@@ -75,6 +79,37 @@ module _ {es : List ℤ} {starts : List ℕ} {n : ℕ} (f : Formula n es starts)
 pub ends_same : (t : ℕ) {F G : List Clause} {vs ws after : Values} {budget : ℕ} {r : CallEnd} → F ≡ G → vs ≡ ws
     → CallEnds (call_on budget F vs t) vs budget r after → CallEnds (call_on budget G ws t) ws budget r after
 ends_same t e f w = rw (← e, ← f) w
+
+-- ---- the call of a chunk
+
+module _ {es : List ℤ} {starts : List ℕ} {first : Values} {status : List ℕ} {values : Values} {chunk : ℕ}
+    (d : ChunkOver es starts first status values chunk) where
+  pub chunk_few : chunk ≤ max_chunk
+  chunk_few = omega (arith, count_le is_open status, d.formula.vars_fit, d.status_len, d.chunk_most)
+
+  pub chunk_asks : {out : List ℤ} → length out ≡ max_chunk → ConstraintOver first status chunk out
+  chunk_asks e =
+      record {
+        first_len = d.first_len ∙ sym d.status_len;
+        vars_fit = omega (arith, d.status_len, d.formula.vars_fit);
+        room = omega (arith, chunk_few, e);
+        chunk_most = d.chunk_most;
+      }
+
+  module _ {before after : List ℤ} (p : ConstraintPut first status chunk before after) {start : Values} (s : start ≡ forced_values status) where
+    pub chunk_from : CallFrom start es starts (take chunk after) (length starts)
+    chunk_from =
+        record {
+          call =
+              chunk_over d.formula (take chunk after) (ap length s ∙ length-forced_values status ∙ d.status_len)
+              (rw (p.front, ← d.status_len) (constraint_up_to first status chunk));
+          small = λ i h. rw s (forced_small status i);
+        }
+
+    pub chunk_ends : (m : Meter) {r : CallEnd} {vs : Values} → Calls es (take chunk after) (length starts) start m r vs
+        → ChunkCalled es first status chunk m r vs
+    chunk_ends m w =
+        ends_same m.spent (chunk_clauses_lem d.formula (take chunk after) ∙ ap (λ (con : Clause). clauses es ++ con ∷ []) p.front) s w
 
 -- ---- what comes of it
 

@@ -82,7 +82,8 @@ pub data NextTo (k : Task) (size : ℕ) (p : Progress) (first : List ℕ) : Cont
       → NextTo k size p first (Break r) status log
 
 -- one call: what it makes of the run, and the values that it leaves, its model or the literals forced so far
-pub record Called (k : Task) (size : ℕ) (p : Progress) (first : List ℕ) (result : ControlFlow Report Tally) (status log : List ℕ) (values : Values) : Type 0 where
+pub record Called (k : Task) (size : ℕ) (p : Progress) (first : List ℕ) (result : ControlFlow Report Tally) (status log : List ℕ)
+    (values : Values) : Type 0 where
   pub next : NextTo k size p first result status log
   pub values_are : values ≡ values_after (chunk_call k p (min size (opens p.statuses))) (forced_values p.statuses)
 

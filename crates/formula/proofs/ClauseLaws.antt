@@ -1,7 +1,7 @@
 -- The laws of clauses by number (specs/Starts): what `clause_at` computes is the clause, the clauses of a call, and the variables
 -- of a clause's literals.
 --
---   starts_of_part, part_is        between a start and the next one stands the clause
+--   starts_of_part, looked_in, looked_part, part_is     between a start and the next one stands the clause
 --   clause_at_formula, clause_at-constraint     clause n is the formula's, or the constraint
 --   length-call_clauses            a call has as many clauses as it says
 --   get_d_call_clauses              and clause n is the one at index n - 1
@@ -25,7 +25,7 @@ use Rattle.rules.specs.Meaning.{Clause, var_of, clauses}
 use Rattle.rules.proofs.ListLaws.{in_get_d}
 use Rattle.rules.proofs.ClauseLaws.{clauses_entries}
 use Rattle.formula.specs.Clauses.{ClauseUpTo}
-use Rattle.formula.specs.Starts.{starts_of, clauses_with, clause_at, call_clauses}
+use Rattle.formula.specs.Starts.{starts_of, clauses_with, clause_at, call_clauses, Lookup}
 use Rattle.formula.specs.Formula.{Formula}
 use Rattle.formula.proofs.StartsLaws.{length-starts_of, Part, part}
 
@@ -37,6 +37,14 @@ unfolding starts_of
 starts_of_part es zero h k = absurd (omega arith)
 starts_of_part es (suc n) h k =
     let e : suc n - 1 ≡ n = omega arith in rw e (part 0 es n (omega arith))
+
+-- of a clause that is looked up, before the last start: it is the formula's, and stands between its start and the next one
+module _ {es : List ℤ} {starts : List ℕ} {n : ℕ} (d : Lookup es starts n) (h : n < length starts) where
+  pub looked_in : n ≤ length (clauses es)
+  looked_in = omega (arith, h, ap length d.starts_are, length-starts_of es)
+
+  pub looked_part : Part 0 es (get_or starts (n - 1) 0) (get_or starts n 0) (get_or (clauses es) (pred n) [])
+  looked_part = rw d.starts_are (starts_of_part es n d.some looked_in)
 
 -- at index 0
 pub part_is : {es : List ℤ} {from to : ℕ} {cl : Clause} → Part 0 es from to cl → take (to - 1 - from) (drop from es) ≡ cl

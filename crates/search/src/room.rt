@@ -2,9 +2,10 @@
 // is lent, so that a call passes on one word for all of it, and a level of the search takes little of the stack.
 ghost use Rattle.std.specs.Prelude.{length, take};
 ghost use Rattle.board.specs.Begins.{Begun};
-ghost use Rattle.search.specs.Rooms.{BoardKept, BeginIn, BeginOver};
+ghost use Rattle.search.specs.Rooms.{BoardKept, BeginIn};
 
 use board::begin::begin;
+use board::chain::Chains;
 use board::parts::Board;
 
 // The literals of all variables, by number.
@@ -25,50 +26,10 @@ pub struct Room<'a> {
     pub board: Board<'a>,
 }
 
-// Makes the board of a list, of what is in use.
-// Rules out: a board with a key too many; one of another list.
-// Required of: begin_in, with room for the chains.
-fn begin_used(
-    entries: &[i32],
-    starts: &[u16],
-    heads: &mut [u16],
-    nexts: &mut [u16],
-    owners: &mut [u16],
-    lists: &mut [u16],
-    holders: &mut [u16],
-    marks: &mut [u8],
-    values: &mut [u8],
-    keys: &mut [u32],
-    hot: &mut [u16],
-    trail: &mut [u16],
-    vars: usize,
-)
-    requires { BeginOver vars entries.now starts.now heads.old nexts.old owners.old lists.old holders.old marks.old
-        values.old keys.old hot.old trail.old }
-    ensures { Begun entries.now vars lists.new holders.new marks.new
-        (take vars values.new) (take (length starts.now) keys.new) hot.new trail.new }
-{
-    let n = starts.len();
-    begin(
-        entries,
-        heads,
-        nexts,
-        owners,
-        lists,
-        holders,
-        marks,
-        &mut values[..vars],
-        &mut keys[..n],
-        hot,
-        trail,
-        n - 1,
-    );
-}
-
 // Makes the board of a list in the room: it shows no value, and has an empty constraint. The hot blocks are blank before, and the chains
 // are gone behind it.
 // Rules out: marks that an older run has left; a board that shows a value.
-// Required of: whole::in_room, with blank blocks.
+// Required of: whole::whole_call, whole_close and backbone::first::room_for_values, with blank blocks.
 pub fn begin_in(
     entries: &[i32],
     starts: &[u16],
@@ -90,19 +51,22 @@ pub fn begin_in(
     let mut heads = [0u16; MAX_CODES];
     let mut nexts = [0u16; rules::MAX_LIST];
     let mut owners = [0u16; rules::MAX_LIST];
-    begin_used(
+    let mut chains = Chains {
+        heads: &mut heads,
+        nexts: &mut nexts,
+        owners: &mut owners,
+    };
+    let count = starts.len();
+    begin(
         entries,
-        starts,
-        &mut heads,
-        &mut nexts,
-        &mut owners,
+        &mut chains,
         lists,
         holders,
         marks,
-        values,
-        keys,
+        &mut values[..vars],
+        &mut keys[..count],
         hot,
         trail,
-        vars,
+        count - 1,
     );
 }

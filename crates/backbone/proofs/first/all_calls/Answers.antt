@@ -30,10 +30,6 @@ settle-requires c =
       kept_len p.values_len c.first_in-end.ensures.1,
     )
 
-pub shape_of-values-in-Model : goal.shape_of-values-in-Model
-shape_of-values-in-Model c =
-    c.settle.auto.values ∙ c.first_in-end.auto.values
-
 pub returns-in-Model : goal.returns-in-Model
 returns-in-Model c =
     c.settle.ensures

@@ -9,9 +9,11 @@ build_index-requires c =
 pub first_board-requires : goal.first_board-requires
 first_board-requires c =
     let start = c.before.before.before in
-    begin_asks start.requires c.build_index.ensures c.clear_bytes.ensures
+    begin_asks start.requires c.build_index.ensures.done c.clear_bytes.ensures
 
 pub returns : goal.returns
 returns c =
-    let start = c.before.before.before in
-    begun start.requires c.build_index.ensures c.clear_bytes.ensures c.first_board.ensures
+    record {
+      done = begun c.requires c.build_index.ensures.done c.clear_bytes.ensures c.first_board.ensures;
+      same = c.build_index.ensures.same;
+    }

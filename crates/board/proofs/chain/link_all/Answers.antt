@@ -97,7 +97,7 @@ loop-e-preserved-then-c-count c =
     (record { sfits = c.entry-1.given })) in
     linking_literal c.requires c.loop-e-test.true
     c.loop-e.invariant not_zero c.if-c-count.true
-    (rw code_is at c.link-m.ensures) c.link-m.auto.heads c.link-m.auto.nexts c.link-m.auto.owners
+    (rw code_is at c.link-m.ensures.done) c.link-m.ensures.same.heads c.link-m.ensures.same.nexts c.link-m.ensures.same.owners
 
 pub loop-e-preserved : goal.loop-e-preserved
 loop-e-preserved c =
@@ -107,18 +107,10 @@ loop-e-preserved c =
     linking_skip c.requires c.loop-e-test.true
     c.loop-e.invariant not_zero c.if-c-count.false
 
-pub shape_of-heads : goal.shape_of-heads
-shape_of-heads c =
-    c.loop-e.invariant.same_heads
-
-pub shape_of-nexts : goal.shape_of-nexts
-shape_of-nexts c =
-    c.loop-e.invariant.same_nexts
-
-pub shape_of-owners : goal.shape_of-owners
-shape_of-owners c =
-    c.loop-e.invariant.same_owners
-
 pub returns : goal.returns
 returns c =
-    linking_done c.requires c.loop-e-test.false c.loop-e.invariant
+    let w = c.loop-e.invariant in
+    record {
+      done = linking_done c.requires c.loop-e-test.false w;
+      same = record { heads = w.same_heads; nexts = w.same_nexts; owners = w.same_owners };
+    }

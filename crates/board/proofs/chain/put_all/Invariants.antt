@@ -1,11 +1,6 @@
--- `board::chain::put_all` meets its contract. The invariant of its loop: the parts of the first k codes are there. The measure is
--- what is left. Assumes nothing.
-use Prim.Native.Nat.{◌-◌}
+-- `board::chain::put_all` meets its contract. The invariant of its loop: the parts of the first k codes are there. Assumes nothing.
 use Rattle.board.proofs.FillLaws.{Filling}
 use Rattle.board.proofs.chain.put_all.Given as goal
 
 abbrev pub invariant-loop-k : goal.invariant-loop-k
-invariant-loop-k l = Filling l.codes l.heads l.nexts l.owners l.initial.starts l.initial.holders l.at l.k l.starts l.holders
-
-abbrev pub decreases-loop-k : goal.decreases-loop-k
-decreases-loop-k l = l.codes - l.k
+invariant-loop-k l = Filling l.codes l.chains.heads.now l.chains.nexts.now l.chains.owners.now l.initial.starts l.initial.holders l.at l.k l.starts l.holders

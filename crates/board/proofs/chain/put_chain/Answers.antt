@@ -1,5 +1,4 @@
 -- `board::chain::put_chain` meets its contract. Assumes nothing.
-use Prim.Native.Nat.{◌-◌}
 use native.Mathlib.Omega.{arith}
 use Rattle.board.proofs.PutLaws.{putting_start, putting_now, putting_falls, putting_step, putting_done}
 use Rattle.board.proofs.chain.put_chain.Goals as goal
@@ -8,12 +7,12 @@ pub loop-h-init : goal.loop-h-init
 loop-h-init c =
     putting_start c.requires
 
-pub offset_bounds-owners-j : goal.offset_bounds-owners-j
-offset_bounds-owners-j c =
+pub offset_bounds-chains-j : goal.offset_bounds-chains-j
+offset_bounds-chains-j c =
     omega (arith, c.loop-h.invariant.owner_room)
 
-pub bounds-owners-j : goal.bounds-owners-j
-bounds-owners-j c =
+pub bounds-chains-j : goal.bounds-chains-j
+bounds-chains-j c =
     omega (arith, c.loop-h-test.true, c.loop-h.invariant.owner_room)
 
 pub offset_bounds-holders-k : goal.offset_bounds-holders-k
@@ -24,17 +23,13 @@ pub bounds-holders-k : goal.bounds-holders-k
 bounds-holders-k c =
     putting_now c.loop-h-test.true c.loop-h.invariant
 
-pub offset_bounds-nexts-j : goal.offset_bounds-nexts-j
-offset_bounds-nexts-j c =
+pub offset_bounds-chains-j-in-loop-h : goal.offset_bounds-chains-j-in-loop-h
+offset_bounds-chains-j-in-loop-h c =
     omega (arith, c.loop-h.invariant.next_room)
 
-pub bounds-nexts-j : goal.bounds-nexts-j
-bounds-nexts-j c =
+pub bounds-chains-j-in-loop-h : goal.bounds-chains-j-in-loop-h
+bounds-chains-j-in-loop-h c =
     omega (arith, c.loop-h-test.true, c.loop-h.invariant.next_room)
-
-pub overflow_cast-h : goal.overflow_cast-h
-overflow_cast-h c =
-    omega (arith, c.type_inv.nexts (c.loop-h.h - 1))
 
 pub overflow_add-k : goal.overflow_add-k
 overflow_add-k c =
@@ -51,10 +46,6 @@ loop-h-smaller c =
 pub loop-h-preserved : goal.loop-h-preserved
 loop-h-preserved c =
     putting_step c.loop-h-test.true c.loop-h.invariant
-
-pub shape_of-holders : goal.shape_of-holders
-shape_of-holders c =
-    c.loop-h.invariant.same_length
 
 pub returns : goal.returns
 returns c =

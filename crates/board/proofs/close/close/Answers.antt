@@ -1,6 +1,7 @@
 -- `board::close::close` meets its contract. Assumes nothing.
 use native.Mathlib.Omega.{arith}
-use Rattle.board.proofs.CloseLaws.{closings_start, closings_asks, closings_few, closings_false, closings_still, closings_falls, closings_again, closings_kept as kept}
+use Rattle.board.proofs.CloseLaws.{closings_start, closings_asks, closings_few, closings_false, closings_still, closings_falls, closings_again}
+use Rattle.board.proofs.CloseLaws.{closings_kept as kept}
 use Rattle.board.proofs.close.close.Goals as goal
 
 pub loop-set-init : goal.loop-set-init

@@ -23,15 +23,15 @@ pub overflow_add-c : goal.overflow_add-c
 overflow_add-c c =
     omega (arith, false_small c.before.requires)
 
-pub clause_in-clause-requires : goal.clause_in-clause-requires
-clause_in-clause-requires c =
+pub clause_at-clause-requires : goal.clause_at-clause-requires
+clause_at-clause-requires c =
     let s = c.before in
     record { starts_are = s.requires.formula.starts_are; some = omega arith; most = omega (arith, s.requires.within) }
 
 pub has_true-requires : goal.has_true-requires
 has_true-requires c =
-    false_up_to c.before.requires c.clause_in-clause.ensures
+    false_up_to c.before.requires c.clause_at-clause.ensures
 
 pub returns : goal.returns
 returns c =
-    false_is c.before.requires c.clause_in-clause.ensures c.has_true.ensures
+    false_is c.before.requires c.clause_at-clause.ensures c.has_true.ensures

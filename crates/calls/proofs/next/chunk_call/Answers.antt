@@ -1,31 +1,16 @@
 -- `next::chunk_call` meets its contract: the values are the forced ones, and the clause after the last one is the constraint.
 -- Assumes nothing.
-use mathlib.Core.Path.{◌≡◌, sym, ◌∙◌, ap}
-use mathlib.Core.List.{◌++◌, ◌∷◌, []}
-use Prim.Native.Nat.{◌≤◌}
+use mathlib.Core.Path.{refl, sym}
 use native.Mathlib.Omega.{arith}
-use lib.ListN.{length, take}
 use lib.Seq.{length-take-le}
-use Rattle.rules.specs.Meaning.{Clause, clauses}
-use Rattle.rules.specs.Run.{is_open, forced_values}
-use Rattle.rules.proofs.ListLaws.{count_le}
-use Rattle.rules.proofs.StatusLaws.{length-forced_values}
 use Rattle.rules.proofs.ClauseLaws.{clauses_le}
 use Rattle.formula.proofs.ClauseLaws.{length_starts}
-use Rattle.calls.proofs.CallLaws.{constraint_up_to, forced_small, chunk_over, chunk_clauses_lem, ends_same}
+use Rattle.calls.proofs.CallLaws.{chunk_few, chunk_asks, chunk_from, chunk_ends}
 use Rattle.calls.proofs.next.chunk_call.Goals as goal
 
 pub put_constraint-requires : goal.put_constraint-requires
 put_constraint-requires c =
-    let few : c.args.chunk ≤ 256 =
-    omega (arith, count_le is_open c.args.status.now, c.requires.formula.vars_fit, c.requires.status_len, c.requires.chunk_most) in
-    let p = c.requires in
-    record {
-      first_len = p.first_len ∙ sym p.status_len;
-      vars_fit = omega (arith, p.status_len, p.formula.vars_fit);
-      room = omega (arith, few);
-      chunk_most = p.chunk_most;
-    }
+    chunk_asks c.requires refl
 
 pub overflow_cast-total : goal.overflow_cast-total
 overflow_cast-total c =
@@ -33,36 +18,16 @@ overflow_cast-total c =
 
 pub slice_bounds-literals-end : goal.slice_bounds-literals-end
 slice_bounds-literals-end c =
-    let few : c.args.chunk ≤ 256 =
-    omega (arith, count_le is_open c.args.status.now, c.requires.formula.vars_fit, c.requires.status_len, c.requires.chunk_most) in
-    let room : c.args.chunk ≤ length c.put_constraint.new.out =
-    omega (arith, few, c.put_constraint.auto) in
-    room
+    omega (arith, chunk_few c.requires, c.put_constraint.auto)
 
 pub slice_bounds-whole_call-end : goal.slice_bounds-whole_call-end
 slice_bounds-whole_call-end c =
-    let few : c.args.chunk ≤ 256 =
-    omega (arith, count_le is_open c.args.status.now, c.requires.formula.vars_fit, c.requires.status_len, c.requires.chunk_most) in
-    let room : c.args.chunk ≤ length c.put_constraint.new.out =
-    omega (arith, few, c.put_constraint.auto) in
-    sym (length-take-le _ _ room)
+    sym (length-take-le c.args.chunk c.put_constraint.new.out (omega (arith, chunk_few c.requires, c.put_constraint.auto)))
 
 pub whole_call-requires : goal.whole_call-requires
 whole_call-requires c =
-    let start_is : c.fill_start.new.values ≡ forced_values c.args.status.now =
-    c.fill_start.ensures in
-    record {
-      call =
-          chunk_over c.requires.formula _ (ap length start_is ∙ length-forced_values c.args.status.now ∙ c.requires.status_len)
-          (rw (c.put_constraint.ensures.front, ← c.requires.status_len) (constraint_up_to c.args.first.now c.args.status.now c.args.chunk));
-      small = λ i h. rw start_is (forced_small c.args.status.now i);
-    }
+    chunk_from c.requires c.put_constraint.ensures c.fill_start.ensures
 
 pub returns : goal.returns
 returns c =
-    let start_is : c.fill_start.new.values ≡ forced_values c.args.status.now =
-    c.fill_start.ensures in
-    let literals = take c.args.chunk c.put_constraint.new.out in
-    ends_same c.args.meter.spent
-    (chunk_clauses_lem c.requires.formula literals ∙ ap (λ (con : Clause). clauses c.args.entries.now ++ con ∷ []) c.put_constraint.ensures.front)
-    start_is c.whole_call.ensures
+    chunk_ends c.requires c.put_constraint.ensures c.fill_start.ensures c.args.meter c.whole_call.ensures

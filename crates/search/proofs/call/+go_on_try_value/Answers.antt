@@ -77,7 +77,9 @@ go_on-returns-else-goes_again t c =
           turn_went c.args.meter c.requires c.close.ensures.done c.in_default.is c.in-Some.v
           (sym c.lowest_from.ensures ∙ c.in-Some.is) c.loop-value.invariant.0 c.try_value-end.ensures.done
           (sym c.goes_again.ensures ∙ c.if-goes_again.false) c.take_back-else-goes_again.ensures.done;
-      same = same_then c.close.ensures.same (same_then c.loop-value.invariant.1 (same_then c.try_value-end.ensures.same c.take_back-else-goes_again.ensures.same));
+      same =
+          same_then c.close.ensures.same
+          (same_then c.loop-value.invariant.1 (same_then c.try_value-end.ensures.same c.take_back-else-goes_again.ensures.same));
     }
 
 pub try_value-returns-in_default : goal.try_value-returns-in_default
