@@ -16,36 +16,10 @@ fn field(rt: &impl Print, n: u64) -> io::Result<()> {
     print!(rt; " {n}")
 }
 
-fn show_byte(rt: &impl Print, i: usize, byte: u8, vars: u32) -> io::Result<()> {
-    if i < vars as usize {
-        field(rt, byte as u64)?;
-    }
-    Ok(())
-}
-
-// The bytes of the variables: statuses, ways.
-fn show_bytes(rt: &impl Print, bytes: &[u8], vars: u32) -> io::Result<()> {
-    let mut i = 0;
-    while i < bytes.len() {
-        show_byte(rt, i, bytes[i], vars)?;
-        i += 1;
-    }
-    Ok(())
-}
-
-fn show_entry(rt: &impl Print, i: usize, n: u32, vars: u32) -> io::Result<()> {
-    if i < vars as usize {
-        field(rt, n as u64)?;
-    }
-    Ok(())
-}
-
-// The numbers of the variables: calls, hints.
-fn show_entries(rt: &impl Print, numbers: &[u32], vars: u32) -> io::Result<()> {
-    let mut i = 0;
-    while i < numbers.len() {
-        show_entry(rt, i, numbers[i], vars)?;
-        i += 1;
+// The numbers of the variables: statuses, calls, ways, hints.
+fn show_numbers<T: Copy + Into<u64>>(rt: &impl Print, numbers: &[T], vars: u32) -> io::Result<()> {
+    for &n in numbers.iter().take(vars as usize) {
+        field(rt, n.into())?;
     }
     Ok(())
 }
@@ -70,38 +44,15 @@ fn show_number(rt: &impl Print, i: usize, n: u32, calls: u32) -> io::Result<()> 
 
 // The rows of the calls begun, six numbers each.
 fn show_rows(rt: &impl Print, log: &[u32], calls: u32) -> io::Result<()> {
-    let mut i = 0;
-    while i < log.len() {
-        show_number(rt, i, log[i], calls)?;
-        i += 1;
+    for (i, &n) in log.iter().enumerate() {
+        show_number(rt, i, n, calls)?;
     }
     Ok(())
 }
 
-// How many bytes are still 7.
-fn bytes_kept(status: &[u8]) -> u64 {
-    let mut n: u64 = 0;
-    let mut i = 0;
-    while i < status.len() {
-        if status[i] == 7 {
-            n += 1;
-        }
-        i += 1;
-    }
-    n
-}
-
 // How many numbers are still 7.
-fn numbers_kept(log: &[u32]) -> u64 {
-    let mut n: u64 = 0;
-    let mut i = 0;
-    while i < log.len() {
-        if log[i] == 7 {
-            n += 1;
-        }
-        i += 1;
-    }
-    n
+fn kept<T: Copy + Into<u64>>(numbers: &[T]) -> u64 {
+    numbers.iter().filter(|&&n| n.into() == 7).count() as u64
 }
 
 fn show_report(rt: &impl Print, name: &[u8], r: Report) -> io::Result<()> {
@@ -124,17 +75,17 @@ fn show_settled(
     ways: &[u8],
 ) -> io::Result<()> {
     word(rt, b" status")?;
-    show_bytes(rt, status, vars)?;
+    show_numbers(rt, status, vars)?;
     word(rt, b" calls")?;
-    show_entries(rt, calls, vars)?;
+    show_numbers(rt, calls, vars)?;
     word(rt, b" ways")?;
-    show_bytes(rt, ways, vars)?;
+    show_numbers(rt, ways, vars)?;
     Ok(())
 }
 
 fn show_run(rt: &impl Print, vars: u32, begun: u32, hints: &[u32], log: &[u32]) -> io::Result<()> {
     word(rt, b" hints")?;
-    show_entries(rt, hints, vars)?;
+    show_numbers(rt, hints, vars)?;
     word(rt, b" log")?;
     show_rows(rt, log, begun)?;
     Ok(())
@@ -149,11 +100,11 @@ fn show_kept(
     log: &[u32],
 ) -> io::Result<()> {
     word(rt, b" kept")?;
-    field(rt, bytes_kept(status))?;
-    field(rt, numbers_kept(calls))?;
-    field(rt, bytes_kept(ways))?;
-    field(rt, numbers_kept(hints))?;
-    field(rt, numbers_kept(log))?;
+    field(rt, kept(status))?;
+    field(rt, kept(calls))?;
+    field(rt, kept(ways))?;
+    field(rt, kept(hints))?;
+    field(rt, kept(log))?;
     word(rt, b"\n")?;
     Ok(())
 }

@@ -1,30 +1,23 @@
 -- The laws of the lines of values.
 --
---   word_dead         what a status above 2 says
 --   lines_more        the lines of one group, then those of the others
 --   Lining, lining_start, lining_part, lining_room, lining_step, lining_done     the loop that puts them
 --
 -- Assumes nothing.
 use mathlib.Core.Path.{◌≡◌, refl, sym, ◌∙◌, ap, ap₂}
 use mathlib.Core.List.{List, ◌++◌}
-use Prim.Native.Nat.{ℕ, zero, suc, ◌+◌, ◌-◌, ◌≤◌, ◌<◌}
+use Prim.Native.Nat.{ℕ, suc, ◌+◌, ◌-◌, ◌≤◌, ◌<◌}
 use native.Mathlib.Omega.{arith}
 use native.Mathlib.Numerals.{add-one}
 use lib.ListN.{length, get_or, take, drop, drop_of_length-le}
 use lib.Seq.{drop-cons, drop-drop}
 use Rattle.rules.specs.Lists.{pieces}
 use Rattle.texts.specs.Groups.{vars_in}
-use Rattle.texts.specs.GroupsPrinted.{dead_word, value_word, value_line, group_lines}
+use Rattle.texts.specs.GroupsPrinted.{value_line, group_lines}
 use Rattle.groups.proofs.ExpandLaws.{sizes-next}
 use Rattle.buffers.specs.Put.{Room, Put}
 use Rattle.buffers.proofs.PutLaws.{length_put, room_first, room_then, room_same, put_then, put_same, put_none}
 use Rattle.groups_printed.specs.Table.{LinesOver}
-
-pub word_dead : (s : ℕ) → 3 ≤ s → value_word s ≡ dead_word
-word_dead zero h = absurd (omega arith)
-word_dead (suc zero) h = absurd (omega arith)
-word_dead (suc (suc zero)) h = absurd (omega arith)
-word_dead (suc (suc (suc s))) h = refl
 
 -- the lines from the group at index i on, which has number i + 1
 abbrev lines_from : List ℕ → List ℕ → ℕ → ℕ → List ℕ

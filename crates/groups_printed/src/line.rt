@@ -48,10 +48,8 @@ fn put_values(out: &mut [u8], at: usize, group: usize, status: &[u8]) -> usize
     ensures { Put at (pieces (value_line group) 1 status.now) out.old result out.new }
 {
     let mut next = at;
-    let mut i: usize = 0;
-    while i < status.len() {
-        next = put_value(out, next, group, i + 1, status[i]);
-        i += 1;
+    for (i, &byte) in status.iter().enumerate() {
+        next = put_value(out, next, group, i + 1, byte);
     }
     next
 }
@@ -65,12 +63,10 @@ pub fn put_groups(out: &mut [u8], at: usize, sizes: &[u8], status: &[u8]) -> usi
 {
     let mut next = at;
     let mut from: usize = 0;
-    let mut i: usize = 0;
-    while i < sizes.len() {
-        let to = from + sizes[i] as usize;
+    for (i, &size) in sizes.iter().enumerate() {
+        let to = from + size as usize;
         next = put_values(out, next, i + 1, &status[from..to]);
         from = to;
-        i += 1;
     }
     next
 }

@@ -41,12 +41,9 @@ fn put_clauses(out: &mut [u8], at: usize, entries: &[i32], starts: &[u16], marks
     requires { ClausesReady entries.now starts.now marks.now × Room at (kept_lines marks.now (clauses entries.now)) out.old }
     ensures { Put at (kept_lines marks.now (clauses entries.now)) out.old result out.new }
 {
-    let last = starts.len() - 1;
     let mut next = at;
-    let mut i: usize = 0;
-    while i < last {
+    for i in 0..starts.len() - 1 {
         next = put_if_kept(out, next, entries, starts, ClauseNo(i as u32 + 1), marks[i]);
-        i += 1;
     }
     next
 }

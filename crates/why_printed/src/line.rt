@@ -44,10 +44,8 @@ fn put_literals(out: &mut [u8], at: usize, clause: &[i32]) -> usize
     ensures { Put at (pieces spaced_literal 1 clause.now) out.old result out.new }
 {
     let mut next = at;
-    let mut i: usize = 0;
-    while i < clause.len() {
-        next = put_spaced(out, next, Lit(clause[i]));
-        i += 1;
+    for &entry in clause {
+        next = put_spaced(out, next, Lit(entry));
     }
     next
 }

@@ -1,6 +1,5 @@
 -- The laws of the two lines: what is asked with buffers of just the size, what a reading leaves, and the contract.
 --
---   bit_high, bit_low     the bit of a literal, by its sign
 --   length_bits, bit_at     the bits of a list of literals
 --   asked_text        what is printed does not depend on what the buffers held
 --   bits_same         the bits behind the same answer
@@ -17,7 +16,7 @@ use mathlib.Core.Option.{Option, none, some}
 use Prim.Native.Nat.{ℕ, zero, suc, pred, ◌≤◌, ◌<◌}
 use native.Mathlib.Omega.{arith}
 use lib.Dec.{leb}
-use lib.IntN.{ℤ, pos, negsuc}
+use lib.IntN.{ℤ, pos}
 use lib.ListN.{length, get_or, take, drop, replicate, length-map, length-replicate, drop_of_length-le}
 use Rattle.rules.specs.declared.ReadAnswer.{ReadAnswer}
 use Rattle.rules.specs.declared.Reading.{Reading}
@@ -39,26 +38,16 @@ use Rattle.rules.specs.Witness.{literals_from, literals_if}
 use Rattle.rules.specs.Witness.{first_after, witness_after, Witnesses, lent_for}
 use Rattle.texts.specs.WitnessPrinted.{literal_bit, bits_of, witness_asked, witness_text_if, witness_text_of_asked, witness_text_of_judged, witness_text_of}
 use Rattle.texts.specs.WitnessPrinted.{max_witness, PrintsWitness}
-use Rattle.rules.proofs.ListLaws.{never}
 use Rattle.texts.proofs.GrammarLaws.{accepted_sound}
 use Rattle.texts.proofs.ReadList.{ReadList}
 use Rattle.rules.proofs.RunTheorems.{run_answer_lem}
 use Rattle.texts.proofs.WitnessText.{bits_literals, witness_listed, length-witness_text_of}
 use Rattle.buffers.specs.Put.{Room, Put}
-use Rattle.formula.specs.Literals.{is_positive}
 use Rattle.buffers.proofs.PutLaws.{room_same}
 use Rattle.buffers.proofs.RoomLaws.{short_count, short_bytes, whole_count, whole_bytes}
 use Rattle.witness_printed.specs.Pair.{line_of, lines_of, text_by, answer_text, bits_by, AnswerPut, Sized, ListReady}
 
 -- ---- the bits of literals
-
-pub bit_high : (l : ℤ) → is_positive l ≡ true → 1 ≡ literal_bit l
-bit_high (pos n) e = refl
-bit_high (negsuc n) e = absurd (never e refl)
-
-pub bit_low : (l : ℤ) → is_positive l ≡ false → 0 ≡ literal_bit l
-bit_low (pos n) e = absurd (never refl e)
-bit_low (negsuc n) e = refl
 
 pub length_bits : (ls : List ℤ) → length (map literal_bit ls) ≡ length ls
 length_bits ls = length-map ls literal_bit

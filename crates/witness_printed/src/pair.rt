@@ -20,10 +20,8 @@ fn put_bits(literals: &[i32], bits: &mut [u8])
     requires { length literals.now ≡ length bits.old }
     ensures { bits.new ≡ map literal_bit literals.now }
 {
-    let mut i: usize = 0;
-    while i < bits.len() {
-        bits[i] = bit_of(literals[i]);
-        i += 1;
+    for (i, bit) in bits.iter_mut().enumerate() {
+        *bit = bit_of(literals[i]);
     }
 }
 

@@ -4,7 +4,6 @@ use mathlib.Core.List.{List, ◌++◌}
 use Prim.Native.Nat.{ℕ}
 use native.Mathlib.Omega.{arith}
 use lib.ListN.{length, take}
-use lib.Seq.{length-take-le}
 use Rattle.rules.specs.Lists.{is_set, count}
 use Rattle.rules.specs.Meaning.{clauses}
 use Rattle.rules.specs.Why.{marked}
@@ -15,23 +14,6 @@ use Rattle.buffers.proofs.PutLaws.{room_first, room_then, room_same, put_then, p
 use Rattle.why_printed.specs.Reason.{reason_text}
 use Rattle.why_printed.proofs.ReasonLaws.{length_marked}
 use Rattle.why_printed.proofs.clauses.put_reason.Goals as goal
-
-pub find_starts-count-requires : goal.find_starts-count-requires
-find_starts-count-requires c =
-    record { entries_fit = omega (arith, c.requires.0.entries_fit); room = c.requires.1 }
-
-pub slice_bounds-count_set-end : goal.slice_bounds-count_set-end
-slice_bounds-count_set-end c =
-    sym (length-take-le _ _ (omega (arith, c.find_starts-count.ensures.count_is, c.requires.0.marks_fit)))
-
-pub count_set-kept-requires : goal.count_set-kept-requires
-count_set-kept-requires c =
-    omega (
-      arith,
-      c.find_starts-count.ensures.count_is,
-      c.requires.0.clauses_fit,
-      length-take-le c.find_starts-count.result c.args.marks.now (omega (arith, c.find_starts-count.ensures.count_is, c.requires.0.marks_fit)),
-    )
 
 pub put_first-next-requires : goal.put_first-next-requires
 put_first-next-requires c =
@@ -50,10 +32,6 @@ put_first-next-requires c =
     let room : Room 0 (first ++ lines) c.args.out.now =
     room_same (sym whole) c.requires.0.room in
     room_first first lines room
-
-pub slice_bounds-put_clauses-end-2 : goal.slice_bounds-put_clauses-end-2
-slice_bounds-put_clauses-end-2 c =
-    sym (length-take-le _ _ (omega (arith, c.find_starts-count.ensures.count_is, c.requires.1, c.find_starts-count.auto.starts)))
 
 pub put_clauses-requires : goal.put_clauses-requires
 put_clauses-requires c =

@@ -1,6 +1,0 @@
--- The measure is what is left. Assumes nothing.
-use Rattle.std.proofs.Common.{length, ◌-◌}
-use Rattle.backbone_test.proofs.show_entries.Given as goal
-
-abbrev pub decreases-loop-i : goal.decreases-loop-i
-decreases-loop-i g l = length l.numbers - l.i
