@@ -9,7 +9,7 @@ ghost use Rattle.folded.specs.Folded.{other_line, is_other, ClauseOf};
 
 use crate::clause::put_clause;
 use formula::state::has_true;
-use formula::view::clause_in;
+use formula::clause::clause_at;
 use rules::ClauseNo;
 
 // Whether clause n holds no forced literal.
@@ -19,7 +19,7 @@ fn is_other(entries: &[i32], starts: &[u16], n: ClauseNo, values: &[u8]) -> bool
     requires { ClauseOf values.now entries.now starts.now n.0 }
     ensures { result ≡ is_other values.now (clause_at entries.now [] n.0) }
 {
-    let clause = clause_in(entries, 0, starts, &entries[..0], n);
+    let clause = clause_at(entries, starts, &[], n);
     !has_true(clause, values)
 }
 
@@ -55,7 +55,7 @@ fn put_other(
     ensures { Put at (other_line values.now n.0 (clause_at entries.now [] n.0)) out.old
         result out.new }
 {
-    let clause = clause_in(entries, 0, starts, &entries[..0], n);
+    let clause = clause_at(entries, starts, &[], n);
     if has_true(clause, values) {
         return at;
     }

@@ -9,7 +9,7 @@ ghost use Rattle.why_printed.specs.Reason.{ClausesReady, ReasonReady, ReasonPut}
 use crate::line::{put_clause, put_first};
 use buffers::count::count_set;
 use formula::starts::find_starts;
-use formula::view::clause_in;
+use formula::clause::clause_at;
 use rules::ClauseNo;
 
 // The line of clause n if its mark is not 0.
@@ -30,7 +30,7 @@ fn put_if_kept(
         return at;
     }
     let number = n.0;
-    let clause = clause_in(entries, 0, starts, &entries[..0], n);
+    let clause = clause_at(entries, starts, &[], n);
     put_clause(out, at, ClauseNo(number), clause)
 }
 

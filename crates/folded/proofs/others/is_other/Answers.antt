@@ -5,4 +5,4 @@ use Rattle.folded.proofs.others.is_other.Goals as goal
 pub has_true-requires : goal.has_true-requires
 has_true-requires c =
     let s = c.before in
-    rw c.clause_in-clause.ensures (clause_of_up_to s.args.n.0 s.requires)
+    rw c.clause_at-clause.ensures (clause_of_up_to s.args.n.0 s.requires)
