@@ -1,7 +1,7 @@
 -- The laws of the header line as src/header.rt reads it.
 --
 --   trim_step, trim_done          one byte less behind, or the last byte is no blank
---   eqs-length, Same, same_start, same_step, same_other, same_done     a word is the wanted one, byte by byte
+--   word_is, word_other           whether a word is the wanted one
 --   Cuts, cuts_within             a line with no blanks behind, from gap to gap, within the line
 --   line_bad, line_large, line_fits     the text by what its header line says; large_vars, large_clauses, small_both: 3 before 4
 --   header_four, words_more       a line with no blanks behind: four words, as they are judged, or more
@@ -17,6 +17,7 @@ use native.Mathlib.Omega.{arith}
 use native.Mathlib.Numerals.{add-one}
 use borrow.Author.Tests.{eq-eqb, ne_eqb, le-leb, lt-leb}
 use lib.Dec.{eqb, leb}
+use lib.Pointwise.{pointwise}
 use lib.ListN.{length, get_or, take, drop, drop_of_length-le, length-drop}
 use lib.Seq.{drop-cons, take-suc, take_all, drop-drop, length-take-le}
 use Rattle.std.specs.Prelude.{Option, None, Some}
@@ -62,38 +63,25 @@ module _ (line : List ℕ) (n : ℕ) (some : 0 < n) (within : n ≤ length line)
 
 -- ---- a word is the wanted one
 
-pub eqs-length : (xs ys : List ℕ) → (length xs ≡ length ys → ⊥) → false ≡ eqs xs ys
-eqs-length [] [] h = absurd (h refl)
-eqs-length [] (y ∷ ys) h = refl
-eqs-length (x ∷ xs) [] h = refl
-eqs-length (x ∷ xs) (y ∷ ys) h = rw (← eqs-length xs ys (λ e. h (ap suc e)), and-false (eqb x y))
+eqs_is : (xs ys : List ℕ) → pointwise eqb xs ys ≡ eqs xs ys
+eqs_is [] [] = refl
+eqs_is [] (y ∷ ys) = refl
+eqs_is (x ∷ xs) [] = refl
+eqs_is (x ∷ xs) (y ∷ ys) = ap (λ (b : Bool). eqb x y && b) (eqs_is xs ys)
 
--- the first i bytes are the same
-pub record Same (word wanted : List ℕ) (i : ℕ) : Type 0 where
-  pub within : i ≤ length word
-  pub rest : eqs (drop i word) (drop i wanted) ≡ eqs word wanted
+-- what `==` answers
+pub word_is : {r t : Bool} {v : List ℕ} (word wanted : List ℕ) → r ≡ pointwise eqb word v → v ≡ wanted → r ≡ t → eqs word wanted ≡ t
+word_is {r} {t} {v} word wanted e q h = sym (e ∙ ap (pointwise eqb word) q ∙ eqs_is word wanted) ∙ h
 
-pub same_start : (word wanted : List ℕ) → Same word wanted 0
-same_start word wanted = record { within = omega arith; rest = refl }
+flip : (x t : Bool) → not x ≡ t → x ≡ not t
+flip true t e = ap not e
+flip false t e = ap not e
 
-module _ {word wanted : List ℕ} {i : ℕ} (long : length word ≡ length wanted) (w : Same word wanted i) where
-  same_here : i < length word
-      → eqs (drop i word) (drop i wanted) ≡ (eqb (get_or word i 0) (get_or wanted i 0) && eqs (drop (suc i) word) (drop (suc i) wanted))
-  same_here h = rw (drop-cons word i 0 h, drop-cons wanted i 0 (omega (arith, long)))
-
-  pub same_step : i < length word → get_or word i 0 ≡ get_or wanted i 0 → Same word wanted (i + 1)
-  same_step h e =
-      let q : eqs (drop i word) (drop i wanted) ≡ eqs (drop (suc i) word) (drop (suc i) wanted) = same_here h ∙ rw (eq-eqb _ _ e) in
-      record { within = omega arith; rest = rw (add-one i) (sym q ∙ w.rest) }
-
-  pub same_other : i < length word → (get_or word i 0 ≡ get_or wanted i 0 → ⊥) → false ≡ eqs word wanted
-  same_other h n = sym (sym w.rest ∙ same_here h ∙ rw (ne_eqb (get_or word i 0) (get_or wanted i 0) n))
-
-  pub same_done : length word ≤ i → true ≡ eqs word wanted
-  same_done h =
-      let q : eqs (drop i word) (drop i wanted) ≡ true =
-      rw (drop_of_length-le word {i = i} h, drop_of_length-le wanted {i = i} (omega (arith, long))) in
-      sym (sym w.rest ∙ q)
+-- and `!=`
+pub word_other :
+    {r t : Bool} {v : List ℕ} (word wanted : List ℕ) → r ≡ not (pointwise eqb word v) → v ≡ wanted → r ≡ t → eqs word wanted ≡ not t
+word_other {r} {t} {v} word wanted e q h =
+    flip (eqs word wanted) t (ap not (sym (ap (pointwise eqb word) q ∙ eqs_is word wanted)) ∙ sym e ∙ h)
 
 -- ---- words from gap to gap
 

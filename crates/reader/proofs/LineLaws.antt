@@ -1,7 +1,7 @@
 -- The laws of `first_line` (specs/Lines): whether a line is skipped, the lines one by one as src/line.rt finds them, and what the
 -- text is judged to by the line that is found.
 --
---   skipped_none, skipped_comment, skipped_other     whether a line is skipped, by its first byte and the first that is no blank
+--   skipped_all                   whether a line is skipped that begins with no `c`
 --   cut_first, cut_whole          the first piece of a cut and the rest; a cut of one piece
 --   lines_from, line_next          the line at a place, then the lines behind it; lines_end: behind the text there is none
 --   text_missing, text_line, line_inside     the text by the first line that is not skipped, which lies within it
@@ -14,14 +14,16 @@ use Prim.Native.Nat.{ℕ, suc, ◌+◌, ◌-◌, ◌≤◌, ◌<◌}
 use native.Mathlib.Decide.{dec_lt}
 use native.Mathlib.Omega.{arith}
 use borrow.Author.Tests.{ne_eqb}
-use lib.Dec.{leb, leb-suc-suc, leb-suc-zero}
+use lib.Dec.{eqb}
 use lib.ListN.{length, get_or, take, drop, drop_of_length-le, length-drop, length-append}
 use lib.Seq.{drop-drop, take-length, take_all, take-append_seam, drop-append-add, length-take-le}
 use Rattle.std.specs.Prelude.{Option, None, Some}
+use Rattle.std.specs.List.{list_all, starts_with}
 use Rattle.rules.specs.declared.ReadAnswer.{ReadAnswer}
 use Rattle.rules.specs.Lists.{all, nth_index, index_if, onto, cut, cut_if}
 use Rattle.texts.specs.Text.{Piece, is_lf, is_blank, is_skipped, placed_from, lines_of, header_of}
 use Rattle.texts.specs.Reading.{Judged, refused, judge_header, judge_line, judge_lines}
+use Rattle.rules.proofs.ListLaws.{never}
 use Rattle.texts.proofs.CutLaws.{Cut, last, piece, cut_none, cut_exists}
 use Rattle.reader.specs.Scan.{first_from}
 use Rattle.reader.specs.Lines.{skipped, line_if, first_line, piece_of, judge_line_at}
@@ -29,29 +31,13 @@ use Rattle.reader.proofs.ScanLaws.{first_le, first_none}
 
 -- ---- one line
 
-all_first : (p : ℕ → Bool) (xs : List ℕ) → leb (length xs) (nth_index (λ b. not (p b)) xs 0) ≡ all p xs
-all_first p [] = refl
-all_first p (x ∷ xs) = go (p x) (all_first p xs)
-  where
-    go :
-        (b : Bool) → leb (length xs) (nth_index (λ b. not (p b)) xs 0) ≡ all p xs →
-        leb (suc (length xs)) (index_if (not b) 0 (λ k. nth_index (λ b. not (p b)) xs k)) ≡ (b && all p xs)
-    go true h = leb-suc-suc (length xs) (nth_index (λ b. not (p b)) xs 0) ∙ h
-    go false h = leb-suc-zero (length xs)
+all_each : (p : ℕ → Bool) (xs : List ℕ) → list_all p xs ≡ all p xs
+all_each p [] = refl
+all_each p (x ∷ xs) = ap (λ (b : Bool). p x && b) (all_each p xs)
 
-pub skipped_none : (line : List ℕ) → length line ≡ 0 → true ≡ skipped line
-skipped_none [] h = refl
-skipped_none (b ∷ bs) h = absurd (omega arith)
-
-pub skipped_comment : (line : List ℕ) → (length line ≡ 0 → ⊥) → get_or line 0 0 ≡ 99 → true ≡ skipped line
-skipped_comment [] n e = absurd (n refl)
-skipped_comment (b ∷ bs) n e = rw e
-
-pub skipped_other : (line : List ℕ) → (get_or line 0 0 ≡ 99 → ⊥) → leb (length line) (first_from (λ b. not (is_blank b)) line 0) ≡ skipped line
-skipped_other [] n = refl
-skipped_other (b ∷ bs) n =
-    let e : first_from (λ b. not (is_blank b)) (b ∷ bs) 0 ≡ nth_index (λ b. not (is_blank b)) (b ∷ bs) 0 = omega arith in
-    rw (ne_eqb b 99 n) (ap (leb (length (b ∷ bs))) e ∙ all_first is_blank (b ∷ bs))
+pub skipped_all : (line : List ℕ) (r : Bool) → starts_with eqb line (99 ∷ []) ≡ false → r ≡ list_all is_blank line → r ≡ skipped line
+skipped_all [] r n e = e
+skipped_all (b ∷ bs) r n e = rw (ne_eqb b 99 (λ q. never refl (rw q at n))) (e ∙ all_each is_blank (b ∷ bs))
 
 -- ---- the first piece of a cut
 

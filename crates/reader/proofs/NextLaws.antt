@@ -48,7 +48,8 @@ module _ (text : List ℕ) (at from : ℕ) (here : from ≡ first_from (λ b. no
     pub finds_malformed : token_of (entry_of (bytes_at text from to)) ≡ None → Finds text at (Err from)
     finds_malformed e = malformed to next (bad_of_token (entry_of (bytes_at text from to)) e)
 
-    pub finds_number : (e : Entry) → token_of (entry_of (bytes_at text from to)) ≡ Some e → Finds text at (Ok (Some (record { from = from; to = to; entry = e })))
+    pub finds_number : (e : Entry) → token_of (entry_of (bytes_at text from to)) ≡ Some e →
+        Finds text at (Ok (Some (record { from = from; to = to; entry = e })))
     finds_number e q = number next (entry_of_token o e q) (minus_some o e q)
       where
         o : Maybe ℤ

@@ -1,6 +1,6 @@
 -- The laws of the buffer: what src/tokens.rt stores, what src/lib.rt clears, and that a reading is what rules defines.
 --
---   clear_start, clear_step, length_clear     zeros from an index up to another
+--   cleared_is                    zeros in a part of the buffer
 --   with_entries_snoc              an entry more in front of a judgement
 --   Progress, progress_start, progress_step   the entries before the cursor are stored
 --   progress_refused, progress_ended          what is stored when the tokens end
@@ -21,7 +21,8 @@ use lib.Dec.{leb, ltb}
 use lib.IntN.{ℤ, pos, nat_abs}
 use lib.ListN.{length, get_or, set, take, drop, replicate, length-append, length-drop, length-set, length-replicate, take-append-drop}
 use lib.ListN.{replicate-append-replicate}
-use lib.Seq.{drop-cons, set_at, length-take-le, take-suc-set, drop-set-lt, append_snoc}
+use lib.Seq.{drop-drop, length-take-le, take-suc-set, drop-set-lt}
+use borrow.Rule.Slice.PartMut.{put_mid}
 use Rattle.rules.specs.declared.ReadAnswer.{ReadAnswer}
 use Rattle.rules.specs.declared.Reading.{Reading}
 use Rattle.rules.specs.Lists.{check, first_of, count_if, is_zero}
@@ -39,38 +40,12 @@ use Rattle.reader.specs.Stores.{cleared, list_of, Stores}
 
 -- ---- zeros
 
-pub clear_start : (before : List ℤ) (from : ℕ) → before ≡ cleared before from from
-clear_start before from =
-    let none : 0 ≡ from - from = omega arith in
-    sym (take-append-drop from before) ∙
-    ap (λ (es : List ℤ). es ++ drop from before) (sym (append-nil (take from before)) ∙ ap (λ (n : ℕ). take from before ++ replicate n (pos 0)) none)
-
-module _ (before : List ℤ) (from i : ℕ) (low : from ≤ i) where
-  abbrev front : List ℤ
-  front = take from before ++ replicate (i - from) (pos 0)
-
-  front_long : i ≤ length before → length front ≡ i
-  front_long h =
-      omega (
-        arith,
-        length-append (take from before) (replicate (i - from) (pos 0)),
-        length-take-le from before (omega arith),
-        length-replicate (i - from) (pos 0),
-      )
-
-  pub length_clear : i ≤ length before → length (cleared before from i) ≡ length before
-  length_clear h = omega (arith, length-append front (drop i before), front_long h, length-drop i before)
-
-  pub clear_step : i < length before → set (cleared before from i) i (pos 0) ≡ cleared before from (i + 1)
-  clear_step h =
-      let more : i - from + 1 ≡ i + 1 - from = omega arith in
-      ap (λ (es : List ℤ). set (front ++ es) i (pos 0)) (drop-cons before i (pos 0) h) ∙
-      set_at front (get_or before i (pos 0)) (drop (suc i) before) (pos 0) i (front_long (omega arith)) ∙
-      sym (append_snoc front (pos 0) (drop (suc i) before)) ∙
-      ap₂ (λ (es ds : List ℤ). es ++ ds)
-      (append_assoc (take from before) (replicate (i - from) (pos 0)) (pos 0 ∷ []) ∙
-      ap (λ (es : List ℤ). take from before ++ es) (replicate-append-replicate (i - from) 1 (pos 0) ∙ ap (λ (n : ℕ). replicate n (pos 0)) more))
-      (ap (λ (n : ℕ). drop n before) (sym (add-one i)))
+pub cleared_is :
+    (before ys : List ℤ) (from to : ℕ) → from ≤ to → ys ≡ replicate (to - from) (pos 0) →
+    put_mid from (to - from) before ys ≡ cleared before from to
+cleared_is before ys from to h e =
+    let past : from + (to - from) ≡ to = omega arith in
+    rw (e, drop-drop (to - from) from before, past, append_assoc)
 
 -- ---- entries in front of a judgement
 

@@ -9,7 +9,7 @@ use mathlib.Core.Path.{◌≡◌, refl}
 use mathlib.Core.Bool.{Bool, true, false}
 use mathlib.Core.List.{List, [], ◌∷◌}
 use mathlib.Core.Option.{Option as Maybe, none, some}
-use Prim.Native.Nat.{ℕ, zero, suc, ◌-◌}
+use Prim.Native.Nat.{ℕ, zero, suc, ◌-◌, ◌≤◌, ◌<◌}
 use native.Mathlib.Omega.{arith}
 use borrow.Author.Tests.{ne_eqb}
 use lib.IntN.{ℤ, pos, negsuc}
@@ -37,7 +37,7 @@ signed-plain minus n e = rw e
 
 -- ---- a token by its first byte
 
-pub token_none : (w : List ℕ) → length w ≡ 0 → None ≡ token_of (entry_of w)
+pub token_none : (w : List ℕ) → length w < 1 → signed_token false (number_of w) ≡ token_of (entry_of w)
 unfolding entry_of
 token_none [] h = refl
 token_none (b ∷ bs) h = absurd (omega arith)
@@ -52,16 +52,16 @@ plain_is true n = refl
 plain_is false n = refl
 
 pub token_minus :
-    (w : List ℕ) → (length w ≡ 0 → ⊥) → get_or w 0 0 ≡ 45 →
+    (w : List ℕ) → 1 ≤ length w → get_or w 0 0 ≡ 45 →
     signed_token true (number_of (take (length w - 1) (drop 1 w))) ≡ token_of (entry_of w)
 unfolding entry_of
-token_minus [] n e = absurd (n refl)
+token_minus [] n e = absurd (omega arith)
 token_minus (b ∷ bs) n e =
     rw (e, take_all (suc (length bs) - 1) bs (omega arith)) (minus_is (is_numeral bs) (numeral bs))
 
-pub token_plain : (w : List ℕ) → (length w ≡ 0 → ⊥) → (get_or w 0 0 ≡ 45 → ⊥) → signed_token false (number_of w) ≡ token_of (entry_of w)
+pub token_plain : (w : List ℕ) → 1 ≤ length w → (get_or w 0 0 ≡ 45 → ⊥) → signed_token false (number_of w) ≡ token_of (entry_of w)
 unfolding entry_of
-token_plain [] n e = absurd (n refl)
+token_plain [] n e = absurd (omega arith)
 token_plain (b ∷ bs) n e = rw (ne_eqb b 45 e) (plain_is (is_numeral (b ∷ bs)) (numeral (b ∷ bs)))
 
 -- ---- what is read

@@ -1,11 +1,11 @@
 // The header line: docs/RULES.md, "The text". `p`, `cnf`, V and C, from the line's first byte on, spaces or tabs between, blanks behind.
 ghost use Rattle.std.specs.Prelude.{◌≡◌, [], ◌∷◌};
-ghost use Rattle.rules.specs.Lists.{eqs, cut};
+ghost use Rattle.rules.specs.Lists.{cut};
 ghost use Rattle.texts.specs.Text.{is_gap, words_of, sizes_of, header_of};
 ghost use Rattle.reader.specs.Words.{header_line, Trims};
 
 use crate::number::number_of;
-use crate::scan::{Wanted, find, is_blank};
+use crate::scan::{find, is_blank, is_gap};
 
 // V and C.
 #[derive(Clone, Copy)]
@@ -18,42 +18,19 @@ pub struct Header {
 fn trimmed_len(line: &[u8]) -> usize
     ensures { Trims line.now result }
 {
-    let mut n = line.len();
-    while 0 < n {
-        if !is_blank(line[n - 1]) {
-            return n;
+    for n in (0..line.len()).rev() {
+        if !is_blank(line[n]) {
+            return n + 1;
         }
-        n -= 1;
     }
-    n
-}
-
-// Whether a word is the wanted one, byte by byte.
-// Rules out: a longer word that begins as the wanted one.
-pub fn is_word(word: &[u8], wanted: &[u8]) -> bool
-    ensures { result ≡ eqs word.now wanted.now }
-{
-    if word.len() != wanted.len() {
-        return false;
-    }
-    let mut i: usize = 0;
-    while i < word.len() {
-        if word[i] != wanted[i] {
-            return false;
-        }
-        i += 1;
-    }
-    true
+    0
 }
 
 // The four words as a header.
 fn sizes_of(p: &[u8], cnf: &[u8], vars: &[u8], clauses: &[u8]) -> Option<Header>
     ensures { result ≡ header_line (sizes_of (p.now ∷ cnf.now ∷ vars.now ∷ clauses.now ∷ [])) }
 {
-    if !is_word(p, b"p") {
-        return None;
-    }
-    if !is_word(cnf, b"cnf") {
+    if p != b"p".as_slice() || cnf != b"cnf".as_slice() {
         return None;
     }
     let vars = number_of(vars)?;
@@ -65,14 +42,15 @@ fn sizes_of(p: &[u8], cnf: &[u8], vars: &[u8], clauses: &[u8]) -> Option<Header>
 fn words_of(line: &[u8]) -> Option<Header>
     ensures { result ≡ header_line (sizes_of (words_of (cut is_gap line.now))) }
 {
-    let p_end = find(line, Wanted::Gap, 0);
-    let cnf = find(line, Wanted::NoGap, p_end);
-    let cnf_end = find(line, Wanted::Gap, cnf);
-    let vars = find(line, Wanted::NoGap, cnf_end);
-    let vars_end = find(line, Wanted::Gap, vars);
-    let clauses = find(line, Wanted::NoGap, vars_end);
-    let clauses_end = find(line, Wanted::Gap, clauses);
-    let more = find(line, Wanted::NoGap, clauses_end);
+    let in_word = |b| !is_gap(b);
+    let p_end = find(line, 0, is_gap);
+    let cnf = find(line, p_end, in_word);
+    let cnf_end = find(line, cnf, is_gap);
+    let vars = find(line, cnf_end, in_word);
+    let vars_end = find(line, vars, is_gap);
+    let clauses = find(line, vars_end, in_word);
+    let clauses_end = find(line, clauses, is_gap);
+    let more = find(line, clauses_end, in_word);
     if more < line.len() {
         return None;
     }

@@ -1,7 +1,7 @@
 // The numbers of a text of tokens alone, as docs/RULES.md, "Claims", has it: found and read as those behind a header.
 ghost use Rattle.reader.specs.Next.{Finds};
 
-use crate::scan::{Wanted, find};
+use crate::scan::{find, is_blank};
 use crate::token::{Entry, token_of};
 
 // Where a number stands, from its first byte up to the byte behind it.
@@ -17,11 +17,11 @@ pub struct Spot {
 pub fn next_number(text: &[u8], at: usize) -> Result<Option<Spot>, usize>
     ensures { Finds text.now at result }
 {
-    let from = find(text, Wanted::NoBlank, at);
+    let from = find(text, at, |b| !is_blank(b));
     if text.len() <= from {
         return Ok(None);
     }
-    let to = find(text, Wanted::Blank, from);
+    let to = find(text, from, is_blank);
     let Some(entry) = token_of(&text[from..to]) else {
         return Err(from);
     };

@@ -15,21 +15,18 @@ fn is_digit(b: u8) -> bool
 pub fn number_of(word: &[u8]) -> Option<u32>
     ensures { result ≡ number_of word.now }
 {
-    if word.len() == 0 {
+    if word.is_empty() {
         return None;
     }
     if 9 < word.len() {
         return None;
     }
     let mut n: u32 = 0;
-    let mut i = 0;
-    while i < word.len() {
-        let b = word[i];
-        if !is_digit(b) {
+    for b in word {
+        if !is_digit(*b) {
             return None;
         }
-        n = 10 * n + (b - b'0') as u32;
-        i += 1;
+        n = 10 * n + u32::from(*b - b'0');
     }
     Some(n)
 }

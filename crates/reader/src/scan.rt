@@ -1,17 +1,7 @@
 // Bytes and the search for one: docs/RULES.md, "The text". Lines, words and tokens are found by `find` alone.
-ghost use Rattle.std.specs.Prelude.{◌≡◌};
+ghost use Rattle.std.specs.Prelude.{◌≡◌, ℕ, ◌≤◌, Bool, length};
 ghost use Rattle.texts.specs.Text.{is_gap, is_blank};
-ghost use Rattle.reader.specs.Scan.{is_wanted, first_from};
-
-// What a search is for: LF; a space or tab, or a byte that is none; a blank, or a byte that is none.
-#[derive(Clone, Copy)]
-pub enum Wanted {
-    Lf,
-    Gap,
-    NoGap,
-    Blank,
-    NoBlank,
-}
+ghost use Rattle.reader.specs.Scan.{Computes, first_from};
 
 // Rules out: true for CR; false for a tab.
 pub fn is_gap(b: u8) -> bool
@@ -27,31 +17,18 @@ pub fn is_blank(b: u8) -> bool
     is_gap(b) || (b == b'\r' || b == b'\n')
 }
 
-// Rules out: true for a tab where NoGap is wanted; false for LF where a blank is.
-pub fn is_wanted(wanted: Wanted, b: u8) -> bool
-    ensures { result ≡ is_wanted wanted b }
+// The index of the first byte from `at` on that passes, or the length if there is none, or `at` where that is more.
+// Rules out: a later byte that passes; the length where one stands before it.
+pub fn find<P: Fn(u8) -> bool>(s: &[u8], at: usize, passes: P) -> usize
+    requires { P.IsAlwaysCallable passes }
+    ensures first { (test : ℕ → Bool) → Computes (P.post passes) test → result ≡ first_from test s.now at }
+    ensures onward { at ≤ result }
+    ensures within { at ≤ length s.now → result ≤ length s.now }
 {
-    match wanted {
-        Wanted::Lf => b == b'\n',
-        Wanted::Gap => is_gap(b),
-        Wanted::NoGap => !is_gap(b),
-        Wanted::Blank => is_blank(b),
-        Wanted::NoBlank => !is_blank(b),
-    }
-}
-
-// The index of the first byte from `at` on that is wanted, or the length if there is none.
-// Rules out: a later byte that is wanted; the length where one stands before it.
-pub fn find(s: &[u8], wanted: Wanted, at: usize) -> usize
-    ensures { result ≡ first_from (is_wanted wanted) s.now at }
-{
-    let mut i = at;
-    while i < s.len() {
-        let b = s[i];
-        if is_wanted(wanted, b) {
+    for i in at..s.len() {
+        if passes(s[i]) {
             return i;
         }
-        i += 1;
     }
-    i
+    at.max(s.len())
 }

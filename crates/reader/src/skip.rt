@@ -3,16 +3,13 @@ ghost use Rattle.std.specs.Prelude.{◌≡◌, true, ◌<◌, length, get_or, dr
 ghost use Rattle.texts.specs.Text.{is_blank, is_comment};
 ghost use Rattle.reader.specs.Skips.{Past, Skips};
 
-use crate::scan::{Wanted, find, is_blank};
+use crate::scan::{find, is_blank};
 
 // Whether the line that starts at `at` is a comment.
 fn starts_comment(text: &[u8], at: usize) -> bool
     ensures { result ≡ is_comment (drop at text.now) }
 {
-    if text.len() <= at {
-        return false;
-    }
-    text[at] == b'c'
+    matches!(text.get(at), Some(b'c'))
 }
 
 // The place behind the blank at `i`: the next byte, or the end of the comment line that begins there.
@@ -26,7 +23,7 @@ fn past_blank(text: &[u8], i: usize) -> usize
     if !starts_comment(text, i + 1) {
         return i + 1;
     }
-    find(text, Wanted::Lf, i + 1)
+    find(text, i + 1, |b| b == b'\n')
 }
 
 // The first byte of the next token from `at` on, or the length if there is none.

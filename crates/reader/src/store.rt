@@ -12,9 +12,5 @@ pub fn clear(entries: &mut [i32], from: usize)
     requires { (from ≤ max_entries) × (max_entries ≤ length entries.old) }
     ensures { entries.new ≡ cleared entries.old from max_entries }
 {
-    let mut i = from;
-    while i < MAX_ENTRIES {
-        entries[i] = 0;
-        i += 1;
-    }
+    entries[from..MAX_ENTRIES].fill(0);
 }

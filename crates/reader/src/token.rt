@@ -27,13 +27,9 @@ fn signed(minus: bool, n: Option<u32>) -> Option<Entry>
 pub fn token_of(word: &[u8]) -> Option<Entry>
     ensures { result ≡ token_of (entry_of word.now) }
 {
-    if word.len() == 0 {
-        return None;
-    }
-    if word[0] == b'-' {
-        signed(true, number_of(&word[1..]))
-    } else {
-        signed(false, number_of(word))
+    match word {
+        [b'-', digits @ ..] => signed(true, number_of(digits)),
+        _ => signed(false, number_of(word)),
     }
 }
 

@@ -7,8 +7,8 @@ ghost use Rattle.reader.specs.Steps.{entry_step, Steps, start, left};
 ghost use Rattle.reader.specs.Stores.{Stores};
 
 use crate::answer::refused;
-use crate::header::{Header, is_word};
-use crate::scan::{Wanted, find};
+use crate::header::Header;
+use crate::scan::{find, is_blank};
 use crate::skip::next_token;
 use crate::token::{Entry, token_of, value_of};
 use rules::{MAX_ENTRIES, ReadAnswer, Reading};
@@ -57,10 +57,7 @@ fn judge_entry(
 fn ends_text(h: Header, c: Cursor, word: &[u8]) -> bool
     ensures { result ≡ ends_text (sizes h) c.clauses word.now }
 {
-    if !is_word(word, b"%") {
-        return false;
-    }
-    h.clauses <= c.clauses
+    word == b"%".as_slice() && h.clauses <= c.clauses
 }
 
 // The next entry and the cursor behind it, or the end of text.
@@ -76,7 +73,7 @@ fn next_step(text: &[u8], h: Header, c: Cursor) -> Result<Option<(i32, Cursor)>,
         }
         return Ok(None);
     }
-    let to = find(text, Wanted::Blank, from);
+    let to = find(text, from, is_blank);
     if ends_text(h, c, &text[from..to]) {
         return Ok(None);
     }

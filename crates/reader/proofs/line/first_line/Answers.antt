@@ -13,14 +13,9 @@ unfolding lines_of
 loop-at-init c =
     (search rules, refl)
 
-pub slice_bounds-is_skipped-end : goal.slice_bounds-is_skipped-end
-slice_bounds-is_skipped-end c =
-    let end_is : c.find-end.result ≡ first_from is_lf c.args.text.now c.loop-at.at = c.find-end.ensures in
-    omega (arith, end_is, from_le is_lf c.args.text.now c.loop-at.at c.loop-at-test.true)
-
 pub returns-then-not-is_skipped : goal.returns-then-not-is_skipped
 returns-then-not-is_skipped c =
-    let end_is : c.find-end.result ≡ first_from is_lf c.args.text.now c.loop-at.at = c.find-end.ensures in
+    let end_is : c.find-end.result ≡ first_from is_lf c.args.text.now c.loop-at.at = (c.find-end.ensures.first is_lf (λ b r w h. search rules)) in
     let l = c.loop-at in
     sym
     (line_found c.args.text.now l.at c.find-end.result end_is c.loop-at-test.true
@@ -30,7 +25,7 @@ returns-then-not-is_skipped c =
 
 pub overflow_add-at : goal.overflow_add-at
 overflow_add-at c =
-    let end_is : c.find-end.result ≡ first_from is_lf c.args.text.now c.loop-at.at = c.find-end.ensures in
+    let end_is : c.find-end.result ≡ first_from is_lf c.args.text.now c.loop-at.at = (c.find-end.ensures.first is_lf (λ b r w h. search rules)) in
     omega (
       arith,
       end_is,
@@ -40,7 +35,7 @@ overflow_add-at c =
 
 pub loop-at-preserved : goal.loop-at-preserved
 loop-at-preserved c =
-    let end_is : c.find-end.result ≡ first_from is_lf c.args.text.now c.loop-at.at = c.find-end.ensures in
+    let end_is : c.find-end.result ≡ first_from is_lf c.args.text.now c.loop-at.at = (c.find-end.ensures.first is_lf (λ b r w h. search rules)) in
     let l = c.loop-at in (
       omega (arith, end_is, from_le is_lf c.args.text.now l.at c.loop-at-test.true),
       sym

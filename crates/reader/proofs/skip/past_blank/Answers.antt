@@ -1,6 +1,8 @@
 -- `reader::skip::past_blank` meets its contract. By the blank, and the byte behind it. Assumes nothing.
 use mathlib.Core.Path.{sym, ◌∙◌, subst}
 use borrow.Author.Tests.{ne_eqb}
+use Rattle.std.proofs.Common.{rules}
+use Rattle.texts.specs.Text.{is_lf}
 use Rattle.reader.specs.Skips.{Past}
 use Rattle.reader.proofs.SkipLaws.{past_blank, past_lf, past_comment}
 use Rattle.reader.proofs.skip.past_blank.Goals as goal
@@ -18,6 +20,6 @@ returns-then-not-starts_comment c =
 pub returns : goal.returns
 returns c =
     let s = c.args in
-    subst (Past s.text.now s.i) (sym c.find.ensures)
+    subst (Past s.text.now s.i) (sym (c.find.ensures.first is_lf (λ b r w h. search rules)))
     (past_comment s.text.now s.i c.requires.0 c.requires.1 c.if-text-i-ne10.false
     (sym c.starts_comment.ensures ∙ c.if-not-starts_comment.false))

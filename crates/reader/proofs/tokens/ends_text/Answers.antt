@@ -1,11 +1,7 @@
 -- `reader::tokens::ends_text` meets its contract. By the two tests. Assumes nothing.
-use mathlib.Core.Path.{sym, ◌∙◌}
+use Rattle.std.proofs.Common.{[], ◌∷◌}
+use Rattle.reader.proofs.HeaderLaws.{word_is}
 use Rattle.reader.proofs.tokens.ends_text.Goals as goal
 
-pub returns-then-not-is_word : goal.returns-then-not-is_word
-returns-then-not-is_word c =
-    rw (sym c.is_word.ensures ∙ c.if-not-is_word.true)
-
-pub returns : goal.returns
-returns c =
-    rw (sym c.is_word.ensures ∙ c.if-not-is_word.false)
+pub returns-else-eq : goal.returns-else-eq
+returns-else-eq c = rw (word_is c.args.word.now (37 ∷ []) c.eq.ensures c.as_slice.ensures c.if-eq.false) c.if-eq.false

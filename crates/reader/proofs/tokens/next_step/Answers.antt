@@ -3,6 +3,7 @@ use mathlib.Core.Path.{◌≡◌, sym, ◌∙◌}
 use mathlib.Core.Bool.{false}
 use Prim.Native.Nat.{◌≤◌, ◌-◌}
 use native.Mathlib.Omega.{arith}
+use Rattle.std.proofs.Common.{rules}
 use lib.ListN.{length, take, drop}
 use Rattle.texts.specs.Text.{is_blank}
 use Rattle.texts.specs.Reading.{ends_text}
@@ -22,27 +23,11 @@ returns-then-text-from c =
     let s = c.args in
     step_end s.h s.text.now s.c c.next_token-from.result c.next_token-from.ensures c.if-text-from.true c.if-c-h.false
 
-pub slice_bounds-ends_text-end : goal.slice_bounds-ends_text-end
-slice_bounds-ends_text-end c =
-    let to_le : c.find-to.result ≤ length c.args.text.now =
-    let s = c.args in
-    let l = c.if-text-from.false in
-    omega (arith, c.find-to.ensures, from_le is_blank s.text.now c.next_token-from.result (omega arith)) in
-    omega (arith, to_le)
-
 pub returns-then-ends_text : goal.returns-then-ends_text
 returns-then-ends_text c =
     let s = c.args in
-    step_percent s.h s.text.now s.c c.next_token-from.result c.next_token-from.ensures c.find-to.result c.find-to.ensures c.if-text-from.false
+    step_percent s.h s.text.now s.c c.next_token-from.result c.next_token-from.ensures c.find-to.result (c.find-to.ensures.first is_blank (λ b r w h. search rules)) c.if-text-from.false
     (sym c.ends_text.ensures ∙ c.if-ends_text.true)
-
-pub slice_bounds-token_of-end : goal.slice_bounds-token_of-end
-slice_bounds-token_of-end c =
-    let to_le : c.find-to.result ≤ length c.args.text.now =
-    let s = c.args in
-    let l = c.if-text-from.false in
-    omega (arith, c.find-to.ensures, from_le is_blank s.text.now c.next_token-from.result (omega arith)) in
-    omega (arith, to_le)
 
 pub returns-in_default : goal.returns-in_default
 returns-in_default c =
@@ -50,7 +35,7 @@ returns-in_default c =
     ≡ false =
     sym c.ends_text.ensures ∙ c.if-ends_text.false in
     let s = c.args in
-    step_bad s.h s.text.now s.c c.next_token-from.result c.next_token-from.ensures c.find-to.result c.find-to.ensures c.if-text-from.false
+    step_bad s.h s.text.now s.c c.next_token-from.result c.next_token-from.ensures c.find-to.result (c.find-to.ensures.first is_blank (λ b r w h. search rules)) c.if-text-from.false
     goes_on (sym c.token_of.ensures ∙ c.in_default.is)
 
 pub returns : goal.returns
@@ -60,5 +45,5 @@ returns c =
     sym c.ends_text.ensures ∙ c.if-ends_text.false in
     let s = c.args in
     step_of {step = entry_step s.h s.c c.next_token-from.result c.find-to.result (value_of c.in-Some.e)} c.judge_entry.ensures
-    (step_entry s.h s.text.now s.c c.next_token-from.result c.next_token-from.ensures c.find-to.result c.find-to.ensures c.if-text-from.false
+    (step_entry s.h s.text.now s.c c.next_token-from.result c.next_token-from.ensures c.find-to.result (c.find-to.ensures.first is_blank (λ b r w h. search rules)) c.if-text-from.false
     c.in-Some.e goes_on (sym c.token_of.ensures ∙ c.in-Some.is))
