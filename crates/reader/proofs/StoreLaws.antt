@@ -5,6 +5,7 @@
 --   Progress, progress_start, progress_step   the entries before the cursor are stored
 --   progress_refused, progress_ended          what is stored when the tokens end
 --   stores_of, stores_refused     a judgement that is another; a refusal before any entry
+--   reading_is                    a reading, or a refusal as it is returned
 --   late_lines, written_late      the text itself is never refused with 1 or 2, so the first 4,096 entries are written
 --   read_short, read_long, read_done          the three ways a reading ends; stores_count: its count is at most 4,096
 --
@@ -23,6 +24,7 @@ use lib.ListN.{length, get_or, set, take, drop, replicate, length-append, length
 use lib.ListN.{replicate-append-replicate}
 use lib.Seq.{drop-drop, length-take-le, take-suc-set, drop-set-lt}
 use borrow.Rule.Slice.PartMut.{put_mid}
+use Rattle.std.specs.Prelude.{Result, Ok, Err, MatchResult}
 use Rattle.rules.specs.declared.ReadAnswer.{ReadAnswer}
 use Rattle.rules.specs.declared.Reading.{Reading}
 use Rattle.rules.specs.Lists.{check, first_of, count_if, is_zero}
@@ -36,7 +38,7 @@ use Rattle.reader.specs.declared.header.Header.{Header}
 use Rattle.reader.specs.declared.tokens.Cursor.{Cursor}
 use Rattle.reader.specs.Words.{sizes}
 use Rattle.reader.specs.Steps.{start, left, After}
-use Rattle.reader.specs.Stores.{cleared, list_of, Stores}
+use Rattle.reader.specs.Stores.{cleared, list_of, reading, Stores}
 
 -- ---- zeros
 
@@ -84,11 +86,10 @@ module _ (h : Header) (text : List ℕ) (from : ℕ) (before : List ℤ) (room :
       }
 
   pub progress_refused :
-      (a : ReadAnswer) (r : Reading) → left h text c ≡ refused a → r ≡ returned (refused a) →
-      Stores (left h text (start from)) before r now
-  progress_refused a r e q =
+      (a : ReadAnswer) → left h text c ≡ refused a → Stores (left h text (start from)) before (returned (refused a)) now
+  progress_refused a e =
       rw (p.judged ∙ ap (with_entries (take c.entries now)) e ∙ with_entries_refused (take c.entries now) a)
-      (record { result_is = q; list_is = refl; most = omega arith; rest_is = p.rest })
+      (record { result_is = refl; list_is = refl; most = omega arith; rest_is = p.rest })
 
   pub progress_ended :
       left h text c ≡ accepted (sizes h) [] →
@@ -108,11 +109,15 @@ module _ (h : Header) (text : List ℕ) (from : ℕ) (before : List ℤ) (room :
 pub stores_of : {j k : Judged} {before : List ℤ} {r : Reading} {after : List ℤ} → j ≡ k → Stores k before r after → Stores j before r after
 stores_of e s = rw e s
 
+-- a reading, or a refusal as it is returned
+pub reading_is : (o : Result Reading ReadAnswer) (r : Reading) → MatchResult o (λ x. r ≡ x) (λ a. r ≡ returned (refused a)) → r ≡ reading o
+reading_is (Ok x) r e = e
+reading_is (Err a) r e = e
+
 -- a refusal before any entry
 pub stores_refused :
-    {j : Judged} {a : ReadAnswer} (before : List ℤ) {r : Reading} → j ≡ refused a → r ≡ returned (refused a) →
-    Stores j before r before
-stores_refused before e q = stores_of e (record { result_is = q; list_is = refl; most = omega arith; rest_is = refl })
+    {j : Judged} {a : ReadAnswer} (before : List ℤ) → j ≡ refused a → Stores j before (returned (refused a)) before
+stores_refused before e = stores_of e (record { result_is = refl; list_is = refl; most = omega arith; rest_is = refl })
 
 -- ---- the text itself is never refused with 1 or 2
 

@@ -1,5 +1,6 @@
 -- What a reading leaves in the buffer that is lent (src/tokens.rt, src/store.rt). Assumes nothing.
-use Rattle.std.specs.Prelude.{◌≡◌, List, [], ◌++◌, ℕ, ◌-◌, ◌≤◌, ℤ, pos, length, take, drop, replicate}
+use Rattle.std.specs.Prelude.{◌≡◌, List, [], ◌++◌, ℕ, ◌-◌, ◌≤◌, ℤ, pos, length, take, drop, replicate, Result, Ok, Err}
+use Rattle.rules.specs.declared.ReadAnswer.{ReadAnswer}
 use Rattle.rules.specs.declared.Reading.{Reading}
 use Rattle.rules.specs.Numbers.{max_entries}
 use Rattle.texts.specs.Reading.{Judged, accepted, refused, returned}
@@ -12,6 +13,11 @@ cleared before from to = take from before ++ replicate (to - from) (pos 0) ++ dr
 abbrev pub list_of : Judged → List ℤ
 list_of (accepted s es) = es
 list_of (refused a) = []
+
+-- what is returned of a reading or a refusal
+abbrev pub reading : Result Reading ReadAnswer → Reading
+reading (Ok r) = r
+reading (Err a) = returned (refused a)
 
 -- before the rest is cleared: what is returned is right, the list stands in front, and nothing is written behind the first 4,096 entries
 pub record Stores (j : Judged) (before : List ℤ) (result : Reading) (after : List ℤ) : Type 0 where

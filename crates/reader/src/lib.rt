@@ -18,7 +18,7 @@ ghost use Rattle.rules.specs.Numbers.{max_entries};
 ghost use Rattle.texts.specs.Text.{lines_of};
 ghost use Rattle.texts.specs.Reading.{Reads, judge_lines};
 ghost use Rattle.reader.specs.Lines.{judge_line_at};
-ghost use Rattle.reader.specs.Stores.{Stores};
+ghost use Rattle.reader.specs.Stores.{Stores, reading};
 
 use answer::refused;
 use header::header_of;
@@ -28,26 +28,26 @@ use store::clear;
 use tokens::read_tokens;
 
 // The line from `from` up to `to` has to be the header: 3 before 4, then the tokens behind it.
-fn read_header(text: &[u8], from: usize, to: usize, entries: &mut [i32]) -> Reading
+fn read_header(text: &[u8], from: usize, to: usize, entries: &mut [i32]) -> Result<Reading, ReadAnswer>
     requires { (from ≤ to) × (to ≤ length text.now) × (max_entries ≤ length entries.old) }
-    ensures { Stores (judge_line_at text.now from to) entries.old result entries.new }
+    ensures { Stores (judge_line_at text.now from to) entries.old (reading result) entries.new }
 {
     let Some(h) = header_of(&text[from..to]) else {
-        return refused(ReadAnswer::BadHeader(from));
+        return Err(ReadAnswer::BadHeader(from));
     };
     if MAX_VARS < h.vars || MAX_CLAUSES < h.clauses {
-        return refused(ReadAnswer::LargeHeader(from));
+        return Err(ReadAnswer::LargeHeader(from));
     }
     read_tokens(text, h, to, entries)
 }
 
 // From the first line on. What stands in the buffer behind the entries that are counted is left to the caller.
-fn read_text(text: &[u8], entries: &mut [i32]) -> Reading
+fn read_text(text: &[u8], entries: &mut [i32]) -> Result<Reading, ReadAnswer>
     requires { max_entries ≤ length entries.old }
-    ensures { Stores (judge_lines text.now (lines_of text.now)) entries.old result entries.new }
+    ensures { Stores (judge_lines text.now (lines_of text.now)) entries.old (reading result) entries.new }
 {
     let Some((from, to)) = first_line(text) else {
-        return refused(ReadAnswer::BadHeader(text.len()));
+        return Err(ReadAnswer::BadHeader(text.len()));
     };
     read_header(text, from, to, entries)
 }
@@ -63,7 +63,7 @@ pub fn read(text: &[u8], entries: &mut [i32]) -> Reading
     if MAX_TEXT < text.len() {
         return refused(ReadAnswer::LongText);
     }
-    let r = read_text(text, entries);
+    let r = read_text(text, entries).unwrap_or_else(refused);
     let n = r.entries;
     clear(entries, n);
     r

@@ -4,9 +4,8 @@ ghost use Rattle.rules.specs.Numbers.{max_vars, max_entries};
 ghost use Rattle.texts.specs.Reading.{ends_text};
 ghost use Rattle.reader.specs.Words.{value_of, sizes};
 ghost use Rattle.reader.specs.Steps.{entry_step, Steps, start, left};
-ghost use Rattle.reader.specs.Stores.{Stores};
+ghost use Rattle.reader.specs.Stores.{Stores, reading};
 
-use crate::answer::refused;
 use crate::header::Header;
 use crate::scan::{find, is_blank};
 use crate::skip::next_token;
@@ -83,36 +82,26 @@ fn next_step(text: &[u8], h: Header, c: Cursor) -> Result<Option<(i32, Cursor)>,
     judge_entry(h, c, from, to, e)
 }
 
-// Stores the entries that stand from `from` on.
+// Stores the entries that stand from `from` on, or refuses.
 // Rules out: 6 where 5 is due; an entry left out.
 // Required of: read_header, whose header is within the sizes.
-pub fn read_tokens(text: &[u8], h: Header, from: usize, entries: &mut [i32]) -> Reading
+pub fn read_tokens(text: &[u8], h: Header, from: usize, entries: &mut [i32]) -> Result<Reading, ReadAnswer>
     requires { (h.vars ≤ max_vars) × (max_entries ≤ length entries.old) }
-    ensures { Stores (left h text.now (start from)) entries.old result entries.new }
+    ensures { Stores (left h text.now (start from)) entries.old (reading result) entries.new }
 {
     let mut c = Cursor {
         at: from,
         clauses: 0,
         entries: 0,
     };
-    loop {
-        match next_step(text, h, c) {
-            Err(a) => {
-                return refused(a);
-            }
-            Ok(None) => {
-                return Reading {
-                    answer: ReadAnswer::Accepted,
-                    vars: h.vars,
-                    clauses: h.clauses,
-                    entries: c.entries,
-                };
-            }
-            Ok(Some((x, next))) => {
-                let n = c.entries;
-                entries[n] = x;
-                c = next;
-            }
-        }
+    while let Some((x, next)) = next_step(text, h, c)? {
+        entries[c.entries] = x;
+        c = next;
     }
+    Ok(Reading {
+        answer: ReadAnswer::Accepted,
+        vars: h.vars,
+        clauses: h.clauses,
+        entries: c.entries,
+    })
 }

@@ -11,7 +11,6 @@ pub returns-in_default : goal.returns-in_default
 returns-in_default c =
     stores_refused c.args.entries.now
     (line_bad c.args.text.now c.args.from c.args.to (sym c.header_of.ensures ∙ c.in_default.is))
-    c.refused.ensures
 
 pub returns-then-h-gt-MAX_VARS : goal.returns-then-h-gt-MAX_VARS
 returns-then-h-gt-MAX_VARS c =
@@ -24,7 +23,6 @@ returns-then-h-gt-MAX_VARS c =
     stores_refused c.args.entries.now
     (line_large c.args.text.now c.args.from c.args.to c.in-Some.h
     (sym c.header_of.ensures ∙ c.in-Some.is) large)
-    c.refused-then-h-gt-MAX_VARS.ensures
 
 pub returns : goal.returns
 returns c =

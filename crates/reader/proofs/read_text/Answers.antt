@@ -14,7 +14,6 @@ pub returns-in_default : goal.returns-in_default
 returns-in_default c =
     stores_refused c.args.entries.now
     (text_missing c.args.text.now (sym c.first_line.ensures ∙ c.in_default.is))
-    c.refused.ensures
 
 pub returns : goal.returns
 returns c =

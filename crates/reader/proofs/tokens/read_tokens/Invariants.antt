@@ -5,8 +5,8 @@ use lib.ListN.{length}
 use Rattle.reader.proofs.StoreLaws.{Progress}
 use Rattle.reader.proofs.tokens.read_tokens.Given as goal
 
-abbrev pub invariant-loop-a : goal.invariant-loop-a
-invariant-loop-a l = Progress l.h l.text l.from l.initial.entries l.c l.entries
+abbrev pub invariant-loop-x : goal.invariant-loop-x
+invariant-loop-x l = Progress l.h l.text l.from l.initial.entries l.c l.entries
 
-abbrev pub decreases-loop-a : goal.decreases-loop-a
-decreases-loop-a l = length l.text - l.c.at
+abbrev pub decreases-loop-x : goal.decreases-loop-x
+decreases-loop-x l = length l.text - l.c.at
