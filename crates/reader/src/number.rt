@@ -6,7 +6,7 @@ ghost use Rattle.reader.specs.Words.{number_of};
 fn is_digit(b: u8) -> bool
     ensures { result ≡ is_digit b }
 {
-    b'0' <= b && b <= b'9'
+    b.is_ascii_digit()
 }
 
 // What a word says if it is read as a numeral.

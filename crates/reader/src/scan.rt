@@ -7,14 +7,14 @@ ghost use Rattle.reader.specs.Scan.{Computes, first_from};
 pub fn is_gap(b: u8) -> bool
     ensures { result ≡ is_gap b }
 {
-    b == b' ' || b == b'\t'
+    matches!(b, b' ' | b'\t')
 }
 
 // Rules out: true for NUL; false for CR.
 pub fn is_blank(b: u8) -> bool
     ensures { result ≡ is_blank b }
 {
-    is_gap(b) || (b == b'\r' || b == b'\n')
+    is_gap(b) || matches!(b, b'\r' | b'\n')
 }
 
 // The index of the first byte from `at` on that passes, or the length if there is none, or `at` where that is more.
