@@ -1,13 +1,6 @@
 // Numerals: docs/RULES.md, "The text". 1 to 9 digits, so a value is below 1,000,000,000 and fits.
 ghost use Rattle.std.specs.Prelude.{◌≡◌};
-ghost use Rattle.texts.specs.Text.{is_digit};
 ghost use Rattle.reader.specs.Words.{number_of};
-
-fn is_digit(b: u8) -> bool
-    ensures { result ≡ is_digit b }
-{
-    b.is_ascii_digit()
-}
 
 // What a word says if it is read as a numeral.
 // Rules out: ten digits as a number; 0 for an empty word.
@@ -23,7 +16,7 @@ pub fn number_of(word: &[u8]) -> Option<u32>
     }
     let mut n: u32 = 0;
     for b in word {
-        if !is_digit(*b) {
+        if !b.is_ascii_digit() {
             return None;
         }
         n = 10 * n + u32::from(*b - b'0');

@@ -19,11 +19,11 @@ pub loop-b-init : goal.loop-b-init
 loop-b-init c =
     digits_start c.args.word.now
 
-pub returns-then-not-is_digit : goal.returns-then-not-is_digit
-returns-then-not-is_digit c =
+pub returns-then-not-is_ascii_digit : goal.returns-then-not-is_ascii_digit
+returns-then-not-is_ascii_digit c =
     let l = c.loop-b in
     not_number_byte c.args.word.now l.n l.b-index l.invariant c.loop-b-test.true
-    (sym c.is_digit.ensures ∙ c.if-not-is_digit.true)
+    (sym c.is_ascii_digit.ensures.value ∙ c.if-not-is_ascii_digit.true)
 
 pub overflow_mul-n : goal.overflow_mul-n
 overflow_mul-n c =
@@ -34,13 +34,13 @@ overflow_mul-n c =
 
 pub overflow_sub-b : goal.overflow_sub-b
 overflow_sub-b c =
-    let digit : is_digit (get_or c.args.word.now c.loop-b.b-index 0) ≡ true = sym c.is_digit.ensures ∙ c.if-not-is_digit.false in
+    let digit : is_digit (get_or c.args.word.now c.loop-b.b-index 0) ≡ true = sym c.is_ascii_digit.ensures.value ∙ c.if-not-is_ascii_digit.false in
     let low : 48 ≤ get_or c.args.word.now c.loop-b.b-index 0 = digit_above _ digit in
     omega (arith, low)
 
 pub overflow_add-n : goal.overflow_add-n
 overflow_add-n c =
-    let digit : is_digit (get_or c.args.word.now c.loop-b.b-index 0) ≡ true = sym c.is_digit.ensures ∙ c.if-not-is_digit.false in
+    let digit : is_digit (get_or c.args.word.now c.loop-b.b-index 0) ≡ true = sym c.is_ascii_digit.ensures.value ∙ c.if-not-is_ascii_digit.false in
     let high : get_or c.args.word.now c.loop-b.b-index 0 ≤ 57 = digit_most _ digit in
     let small : c.loop-b.n < 100000000 =
     let l = c.loop-b in
@@ -49,7 +49,7 @@ overflow_add-n c =
 
 pub loop-b-preserved : goal.loop-b-preserved
 loop-b-preserved c =
-    let digit : is_digit (get_or c.args.word.now c.loop-b.b-index 0) ≡ true = sym c.is_digit.ensures ∙ c.if-not-is_digit.false in
+    let digit : is_digit (get_or c.args.word.now c.loop-b.b-index 0) ≡ true = sym c.is_ascii_digit.ensures.value ∙ c.if-not-is_ascii_digit.false in
     let l = c.loop-b in
     rw (c.from.ensures) (digits_step _ l.n l.b-index l.invariant c.loop-b-test.true digit)
 
