@@ -1,16 +1,19 @@
 -- The elements of a list that pass, counted one by one: the bytes of a buffer that are not 0, and others.
 --
---   one_more          a byte that is not 0 counts
+--   count_is          the bytes that are not 0, as the library counts them
 --   Counting, counting_start, counting_step, counting_done     those before i, and with the others all
 --
 -- Assumes nothing.
 use mathlib.Core.Path.{◌≡◌, refl, sym, ap}
-use mathlib.Core.Logic.{◌≢◌}
 use mathlib.Core.Bool.{Bool, true, false}
-use mathlib.Core.List.{List}
+use mathlib.Core.List.{List, ◌∷◌}
+use Rattle.std.specs.Prelude.{not, cond, nat_eq}
+use Rattle.std.proofs.lemmas.List.Recursion.{is_count_by}
+use Rattle.std.specs.List.{count_by}
 use Prim.Native.Nat.{ℕ, zero, suc, ◌+◌, ◌≤◌, ◌<◌}
 use native.Mathlib.Omega.{arith}
 use native.Mathlib.Numerals.{add-one}
+use lib.Dec.{eqb-suc-zero}
 use lib.ListN.{length, get_or, drop, drop_of_length-le}
 use lib.Seq.{drop-cons}
 use Rattle.rules.specs.Lists.{is_set, count, count_if}
@@ -21,9 +24,13 @@ pub record Counting {A : Type 0} (p : A → Bool) (xs : List A) (i n : ℕ) : Ty
   pub fewer : n ≤ i
   pub rest : n + count p (drop i xs) ≡ count p xs
 
-pub one_more_lem : (b n : ℕ) → b ≢ 0 → n + 1 ≡ count_if (is_set b) n
-one_more_lem zero n h = absurd (h refl)
-one_more_lem (suc b) n h = add-one n
+-- the bytes that are not 0, as the library counts them
+pub count_is : (bs : List ℕ) → count_by (λ b. not (nat_eq b 0)) bs ≡ count is_set bs
+count_is bs = sym (is_count_by (count is_set) (λ b. not (nat_eq b 0)) refl step bs)
+  where
+    step : (b : ℕ) (bs : List ℕ) → count is_set (b ∷ bs) ≡ cond (not (nat_eq b 0)) (1 + count is_set bs) (count is_set bs)
+    step zero bs = refl
+    step (suc b) bs = rw (eqb-suc-zero b) (omega arith)
 
 module _ {A : Type 0} {p : A → Bool} where
   pub counting_start : (xs : List A) → Counting p xs 0 0

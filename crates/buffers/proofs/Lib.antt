@@ -1,5 +1,4 @@
 pub mod FillLaws
-pub mod BitsLaws
 pub mod CountLaws
 pub mod PutLaws
 pub mod PieceLaws

@@ -7,16 +7,16 @@
 --   put_then          one part behind the other
 --   room_same, put_same     by an equation of the bytes
 --   put_none, length_put    nothing is put; a buffer keeps its length
---   putting_start, putting_step, putting_done     a word, byte by byte
+--   put_part          bytes written over a part of the buffer
 --
 -- Assumes nothing.
 use mathlib.Core.Path.{◌≡◌, refl, sym, ◌∙◌, ap}
 use mathlib.Core.List.{List, [], ◌∷◌, ◌++◌, append_assoc}
-use Prim.Native.Nat.{ℕ, suc, ◌+◌, ◌≤◌, ◌<◌}
+use Prim.Native.Nat.{ℕ, suc, ◌+◌, ◌≤◌}
 use native.Mathlib.Omega.{arith}
-use native.Mathlib.Numerals.{add-one}
-use lib.ListN.{length, get_or, set, drop, length-append, length-set, drop_of_length-le}
-use lib.Seq.{drop-cons, set-append_seam}
+use lib.ListN.{length, set, take, drop, take-append-drop, length-append, length-set, length-drop}
+use borrow.Rule.Slice.PartMut.{put_mid}
+use lib.Seq.{set-append_seam, length-take-le}
 use Rattle.buffers.specs.Put.{put_at, Room, Put}
 
 pub length-put_at : (out : List ℕ) (at : ℕ) (bs : List ℕ) → length (put_at out at bs) ≡ length out
@@ -76,33 +76,11 @@ put_none at out = record { next_is = omega arith; after_is = refl }
 pub length_put : {at next : ℕ} {before after xs : List ℕ} → Put at xs before next after → length after ≡ length before
 length_put {at} {next} {before} {after} {xs} p = ap length p.after_is ∙ length-put_at before at xs
 
--- ---- a word, byte by byte: what is put, and what is still to put, are the word
+-- ---- a word as a whole
 
-pub record Putting (word : List ℕ) (at : ℕ) (before : List ℕ) (i : ℕ) (out : List ℕ) : Type 0 where
-  pub within : i ≤ length word
-  pub len : length out ≡ length before
-  pub rest : put_at out (at + i) (drop i word) ≡ put_at before at word
-
-pub putting_start : (word : List ℕ) (at : ℕ) (before : List ℕ) → Putting word at before 0 before
-putting_start word at before = record { within = omega arith; len = refl; rest = ap (λ (k : ℕ). put_at before k word) (omega arith) }
-
-pub putting_step : {word : List ℕ} {at : ℕ} {before : List ℕ} {i : ℕ} {out : List ℕ} (d : ℕ)
-    → Putting word at before i out → i < length word → Putting word at before (i + 1) (set out (at + i) (get_or word i d))
-putting_step {word} {at} {before} {i} {out} d w h =
-    record {
-      within = omega arith;
-      len = length-set out (at + i) (get_or word i d) ∙ w.len;
-      rest =
-          ap (λ (k : ℕ). put_at (set out (at + i) (get_or word i d)) k (drop (i + 1) word)) (omega arith) ∙
-          ap (λ (k : ℕ). put_at (set out (at + i) (get_or word i d)) (suc (at + i)) (drop k word)) (add-one i) ∙
-          ap (put_at out (at + i)) (sym (drop-cons word i d h)) ∙
-          w.rest;
-    }
-
-pub putting_done : {word : List ℕ} {at : ℕ} {before : List ℕ} {i : ℕ} {out : List ℕ}
-    → Putting word at before i out → length word ≤ i → Put at word before (at + i) out
-putting_done {word} {at} {before} {i} {out} w h =
-    record {
-      next_is = omega (arith, w.within);
-      after_is = sym (ap (put_at out (at + i)) (drop_of_length-le word h)) ∙ w.rest;
-    }
+-- the bytes written over a part of the buffer, as long as they are
+pub put_part : (out bs : List ℕ) (at : ℕ) {k : ℕ} {ys : List ℕ} → at + length bs ≤ length out → k ≡ length bs → ys ≡ bs → put_mid at k out ys ≡ put_at out at bs
+put_part out bs at h k e =
+    rw (k, e) (sym (ap (λ (o : List ℕ). put_at o at bs) (sym (take-append-drop at out)) ∙
+    ap (λ (i : ℕ). put_at (take at out ++ drop at out) i bs) (sym (length-take-le at out (omega arith))) ∙
+    put_at_behind (take at out) bs (drop at out) (omega (arith, length-drop at out))))

@@ -7,7 +7,7 @@ ghost use Rattle.rules.specs.Meaning.{bit_of};
 fn bit_of(byte: u8) -> u8
     ensures { result ≡ bit_of byte }
 {
-    if byte < 2 { 0 } else { 1 }
+    u8::from(2 <= byte)
 }
 
 // Writes a model's values as bits.
@@ -15,9 +15,7 @@ fn bit_of(byte: u8) -> u8
 pub fn write_bits(values: &mut [u8])
     ensures { values.new ≡ map bit_of values.old }
 {
-    let mut i: usize = 0;
-    while i < values.len() {
-        values[i] = bit_of(values[i]);
-        i += 1;
+    for value in values.iter_mut() {
+        *value = bit_of(*value);
     }
 }

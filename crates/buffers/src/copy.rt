@@ -8,9 +8,5 @@ pub fn copy_first(from: &[u8], to: &mut [u8], n: usize)
     requires { (n ≤ length from.now) × (n ≤ length to.old) }
     ensures { to.new ≡ take n from.now ++ drop n to.old }
 {
-    let mut done = 0;
-    while done < n {
-        to[done] = from[done];
-        done += 1;
-    }
+    to[..n].copy_from_slice(&from[..n]);
 }

@@ -22,12 +22,9 @@ pub fn put_word(out: &mut [u8], at: usize, word: &[u8]) -> usize
     requires { Room at word.now out.old }
     ensures { Put at word.now out.old result out.new }
 {
-    let mut i: usize = 0;
-    while i < word.len() {
-        out[at + i] = word[i];
-        i += 1;
-    }
-    at + i
+    let next = at + word.len();
+    out[at..next].copy_from_slice(word);
+    next
 }
 
 // The digits of a number, with no zero in front: those of a tenth of it, then the last one.
@@ -38,10 +35,10 @@ pub fn put_decimal(out: &mut [u8], at: usize, n: usize) -> usize
     ensures { Put at (decimal n) out.old result out.new }
 {
     if n < 10 {
-        return put_byte(out, at, 48 + n as u8);
+        return put_byte(out, at, b'0' + n as u8);
     }
     let next = put_decimal(out, at, n / 10);
-    put_byte(out, next, 48 + (n % 10) as u8)
+    put_byte(out, next, b'0' + (n % 10) as u8)
 }
 
 // A number with its sign: a minus in front if it is negative.
@@ -52,7 +49,7 @@ pub fn put_signed(out: &mut [u8], at: usize, negative: bool, n: usize) -> usize
     ensures { Put at (signed negative n) out.old result out.new }
 {
     if negative {
-        let next = put_byte(out, at, 45);
+        let next = put_byte(out, at, b'-');
         return put_decimal(out, next, n);
     }
     put_decimal(out, at, n)

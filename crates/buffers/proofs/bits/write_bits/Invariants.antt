@@ -1,11 +1,8 @@
--- `buffers::bits::write_bits` meets its contract. The invariant of its loop: the first i are bits, the others as they were. Assumes nothing.
-use Prim.Native.Nat.{◌-◌}
-use lib.ListN.{length}
-use Rattle.buffers.proofs.BitsLaws.{Bits}
+-- `buffers::bits::write_bits` meets its contract. The invariant of its loop: the values before the index are bits, the others as they were.
+-- Assumes nothing.
+use Rattle.std.proofs.Common.{◌≡◌, ◌++◌, map, take, drop}
+use Rattle.rules.specs.Meaning.{bit_of}
 use Rattle.buffers.proofs.bits.write_bits.Given as goal
 
-abbrev pub invariant-loop-i : goal.invariant-loop-i
-invariant-loop-i l = Bits l.initial.values l.values l.i
-
-abbrev pub decreases-loop-i : goal.decreases-loop-i
-decreases-loop-i l = length l.values - l.i
+abbrev pub invariant-loop-value : goal.invariant-loop-value
+invariant-loop-value l = l.values ≡ map bit_of (take l.value-index l.initial.values) ++ drop l.value-index l.initial.values
