@@ -230,10 +230,8 @@ fn byte_at(i: usize, b: u8) -> u8 {
 
 // Tokens of one byte each, with a space between: `b` at each even index.
 fn alternate(t: &mut [u8], b: u8) {
-    let mut i = 0;
-    while i < t.len() {
-        t[i] = byte_at(i, b);
-        i += 1;
+    for (i, x) in t.iter_mut().enumerate() {
+        *x = byte_at(i, b);
     }
 }
 
@@ -318,15 +316,7 @@ fn size_cases(rt: &impl Print) -> io::Result<()> {
 
 // How many entries are x.
 fn count_of(e: &[i32], x: i32) -> u64 {
-    let mut n: u64 = 0;
-    let mut i = 0;
-    while i < e.len() {
-        if e[i] == x {
-            n += 1;
-        }
-        i += 1;
-    }
-    n
+    e.iter().filter(|y| **y == x).count() as u64
 }
 
 // A buffer after a reading: how many of its entries are -1, 0, 1 and 7, which all of them were before.

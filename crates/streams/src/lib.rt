@@ -2,60 +2,31 @@
 
 // Standard input as a program reads it, and what it writes. No contract can say what is read or written; how many bytes are counted is proved.
 // A read or a write that fails is told on standard error: a program has no exit status of its own to give.
+ghost use Rattle.std.specs.Prelude.{unwrap_or};
 ghost use Rattle.io.specs.Counts.{IsPrefixLen};
 
 use std::io::Read;
 use std::{fmt, io};
 
-// What came of reading standard input: how many bytes stand at the buffer's start, none if a read failed.
-#[derive(Clone, Copy)]
-pub struct Input {
-    pub failed: bool,
-    pub count: usize,
-}
-
-// One read of standard input: 0 bytes at its end. A read that fails is told, and is not the end.
-fn read_once<R: Read>(rt: &impl Eprint, input: &mut R, part: &mut [u8]) -> Input
-    ensures { IsPrefixLen result.count part.new }
-{
-    match input.read(part) {
-        Ok(count) => Input {
-            failed: false,
-            count,
-        },
-        Err(_) => {
-            complain(rt, b"standard input", b"reading failed");
-            Input {
-                failed: true,
-                count: 0,
-            }
-        }
-    }
-}
-
-// Reads standard input until the buffer is full or the input ends.
-pub fn read_input(rt: &(impl io::Input + Eprint), text: &mut [u8]) -> Input
-    ensures { IsPrefixLen result.count text.new }
+// Reads standard input until the buffer is full or the input ends, and answers how many bytes stand at the buffer's start. A read that
+// fails is told, and is not the end: then the answer is None.
+pub fn read_input(rt: &(impl io::Input + Eprint), text: &mut [u8]) -> Option<usize>
+    ensures { IsPrefixLen (unwrap_or result 0) text.new }
 {
     let mut input = rt.reader();
     let mut count: usize = 0;
+    // Stays a `while`: how far the index goes is what a read gives.
     while count < text.len() {
-        let read = read_once(rt, &mut input, &mut text[count..]);
-        if read.failed {
-            return Input {
-                failed: true,
-                count: 0,
-            };
-        }
-        if read.count == 0 {
+        let Ok(n) = input.read(&mut text[count..]) else {
+            complain(rt, b"standard input", b"reading failed");
+            return None;
+        };
+        if n == 0 {
             break;
         }
-        count += read.count;
+        count += n;
     }
-    Input {
-        failed: false,
-        count,
-    }
+    Some(count)
 }
 
 // Writes to standard output. A write that fails is told.
