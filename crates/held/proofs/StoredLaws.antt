@@ -1,6 +1,6 @@
 -- The laws of specs/Stored: entries stored one behind the other.
 --
---   Storing, storing_start, storing_room, storing_step, storing_done     the loop over entries
+--   entries_stored    a copy of the entries
 --   Holding, holding-start, holding_room, holding_step, holding_done     the loop over held literals, two entries a turn
 --   fits_first, fits_then, list_put     a list, and the held literals behind it
 --   sets_append       one part behind the other
@@ -21,30 +21,13 @@ use Rattle.held.specs.Stored.{Fits, Stored, ListPut}
 
 -- ---- entries
 
--- what is stored, and what is still to store, are the entries
-pub record Storing (es before : List ℤ) (i : ℕ) (now : List ℤ) : Type 0 where
-  pub within : i ≤ length es
-  pub len : length now ≡ length before
-  pub rest : sets now i (drop i es) ≡ sets before 0 es
-
-pub storing_start : (es before : List ℤ) → Storing es before 0 before
-storing_start es before = record { within = omega arith; len = refl; rest = refl }
-
-module _ {es before now : List ℤ} {i : ℕ} (w : Storing es before i now) where
-  pub storing_room : Fits es 0 before → i < length es → i < length now
-  storing_room r h = omega (arith, r.fits, w.len)
-
-  pub storing_step : i < length es → Storing es before (i + 1) (set now i (get_or es i (pos 0)))
-  storing_step h =
-      record {
-        within = omega arith;
-        len = length-set now i (get_or es i (pos 0)) ∙ w.len;
-        rest = rw (add-one i) (ap (sets now i) (sym (drop-cons es i (pos 0) h)) ∙ w.rest);
-      }
-
-  pub storing_done : length es ≤ i → Stored es 0 before i now
-  storing_done h =
-      record { next_is = omega (arith, w.within); after_is = sym (ap (sets now i) (drop_of_length-le es h)) ∙ w.rest }
+-- the front of the buffer is copied
+pub entries_stored : (es before : List ℤ) {front : List ℤ} → Fits es 0 before → front ≡ es → Stored es 0 before (length es) (front ++ drop (length es) before)
+entries_stored es before r e =
+    record {
+      next_is = omega arith;
+      after_is = rw e (ap (λ (n : ℕ). es ++ drop n before) (omega arith) ∙ sym (sets-eq es before 0 r.fits));
+    }
 
 -- ---- held literals
 

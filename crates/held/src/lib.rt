@@ -11,12 +11,9 @@ pub fn put_entries(entries: &[i32], out: &mut [i32]) -> usize
     requires { Fits entries.now 0 out.old }
     ensures { Stored entries.now 0 out.old result out.new }
 {
-    let mut i: usize = 0;
-    while i < entries.len() {
-        out[i] = entries[i];
-        i += 1;
-    }
-    i
+    let n = entries.len();
+    out[..n].copy_from_slice(entries);
+    n
 }
 
 // Stores each held literal, and the 0 that closes its clause, from an index on; answers the index behind them.
@@ -27,12 +24,10 @@ pub fn put_held(held: &[i32], out: &mut [i32], at: usize) -> usize
     ensures { Stored (held_entries held.now) at out.old result out.new }
 {
     let mut next = at;
-    let mut i: usize = 0;
-    while i < held.len() {
-        out[next] = held[i];
+    for literal in held {
+        out[next] = *literal;
         out[next + 1] = 0;
         next += 2;
-        i += 1;
     }
     next
 }
