@@ -7,23 +7,6 @@ use Rattle.reader.proofs.HeaderLaws.{line_bad, line_large, line_fits, large_vars
 use Rattle.reader.proofs.StoreLaws.{stores_of, stores_refused}
 use Rattle.reader.proofs.read_header.Goals as goal
 
-pub returns-in_default : goal.returns-in_default
-returns-in_default c =
-    stores_refused c.args.entries.now
-    (line_bad c.args.text.now c.args.from c.args.to (sym c.header_of.ensures ∙ c.in_default.is))
-
-pub returns-then-h-gt-MAX_VARS : goal.returns-then-h-gt-MAX_VARS
-returns-then-h-gt-MAX_VARS c =
-    let large : fits (sizes c.in-Some.h) ≡ false =
-    let h = c.in-Some.h in
-    elim c.then-h-gt-MAX_VARS.branch [
-      | goal.then-h-gt-MAX_VARS-via-then-h-gt-MAX_VARS w ↦ large_vars h w.if-h-gt-MAX_VARS.true
-      | goal.then-h-gt-MAX_VARS-via-else-h-gt-MAX_VARS+then-h-gt-MAX_CLAUSES w ↦ large_clauses h w.if-h-gt-MAX_CLAUSES.true
-    ] in
-    stores_refused c.args.entries.now
-    (line_large c.args.text.now c.args.from c.args.to c.in-Some.h
-    (sym c.header_of.ensures ∙ c.in-Some.is) large)
-
 pub returns : goal.returns
 returns c =
     let small : fits (sizes c.in-Some.h) ≡ true = small_both c.in-Some.h c.if-h-gt-MAX_VARS.false c.if-h-gt-MAX_CLAUSES.false in

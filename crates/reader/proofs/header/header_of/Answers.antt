@@ -8,10 +8,6 @@ use Rattle.texts.specs.Text.{is_gap, sizes_of, words_of, header_of}
 use Rattle.reader.specs.Words.{header_line}
 use Rattle.reader.proofs.header.header_of.Goals as goal
 
-pub slice_bounds-words_of-end : goal.slice_bounds-words_of-end
-slice_bounds-words_of-end c =
-    sym (length-take-le _ _ c.trimmed_len-n.ensures.within)
-
 pub returns : goal.returns
 unfolding header_of
 returns c =

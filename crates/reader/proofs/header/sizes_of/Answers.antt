@@ -17,24 +17,3 @@ returns-then-ne c =
           )
     ]
 
-pub returns-in_err-vars : goal.returns-in_err-vars
-returns-in_err-vars c =
-    let p = word_other c.args.p.now (112 ∷ []) c.ne.ensures c.as_slice.ensures c.if-ne.false in
-    let cnf = word_other c.args.cnf.now (99 ∷ 110 ∷ 102 ∷ []) c.ne-else-ne.ensures c.as_slice-else-ne.ensures c.if-ne-2.false in
-    rw (p, cnf, number_bad c.args.vars.now (sym c.number_of.ensures ∙ c.in_err-vars.was)) c.from_residual.ensures
-
-pub returns-in_err-clauses : goal.returns-in_err-clauses
-returns-in_err-clauses c =
-    let p = word_other c.args.p.now (112 ∷ []) c.ne.ensures c.as_slice.ensures c.if-ne.false in
-    let cnf = word_other c.args.cnf.now (99 ∷ 110 ∷ 102 ∷ []) c.ne-else-ne.ensures c.as_slice-else-ne.ensures c.if-ne-2.false in
-    let v = number_good c.args.vars.now _ (sym c.number_of.ensures ∙ c.in_ok-vars.was) in
-    rw (p, cnf, v.0, number_bad c.args.clauses.now (sym c.number_of-2.ensures ∙ c.in_err-clauses.was))
-    c.from_residual-in_err-clauses.ensures
-
-pub returns : goal.returns
-returns c =
-    let p = word_other c.args.p.now (112 ∷ []) c.ne.ensures c.as_slice.ensures c.if-ne.false in
-    let cnf = word_other c.args.cnf.now (99 ∷ 110 ∷ 102 ∷ []) c.ne-else-ne.ensures c.as_slice-else-ne.ensures c.if-ne-2.false in
-    let v = number_good c.args.vars.now _ (sym c.number_of.ensures ∙ c.in_ok-vars.was) in
-    let n = number_good c.args.clauses.now _ (sym c.number_of-2.ensures ∙ c.in_ok-clauses.was) in
-    rw (p, cnf, v.0, n.0, v.1, n.1)

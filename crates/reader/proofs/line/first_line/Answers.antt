@@ -23,16 +23,6 @@ returns-then-not-is_skipped c =
     ∙
     l.invariant.1
 
-pub overflow_add-at : goal.overflow_add-at
-overflow_add-at c =
-    let end_is : c.find-end.result ≡ first_from is_lf c.args.text.now c.loop-at.at = (c.find-end.ensures.first is_lf (λ b r w h. search rules)) in
-    omega (
-      arith,
-      end_is,
-      from_le is_lf c.args.text.now c.loop-at.at c.loop-at-test.true,
-      c.well_formed,
-    )
-
 pub loop-at-preserved : goal.loop-at-preserved
 loop-at-preserved c =
     let end_is : c.find-end.result ≡ first_from is_lf c.args.text.now c.loop-at.at = (c.find-end.ensures.first is_lf (λ b r w h. search rules)) in
@@ -43,6 +33,3 @@ loop-at-preserved c =
           (sym c.is_skipped.ensures ∙ c.if-not-is_skipped.false)) ∙ l.invariant.1,
     )
 
-pub returns : goal.returns
-returns c =
-    sym (lines_end c.args.text.now c.loop-at.at c.loop-at-test.false) ∙ c.loop-at.invariant.1

@@ -11,19 +11,9 @@ use Rattle.reader.proofs.NumberLaws.{not_number_none, not_number_byte}
 use Rattle.reader.proofs.NumberLaws.{digits_start, digits_small, digits_step, digits_done}
 use Rattle.reader.proofs.number.number_of.Goals as goal
 
-pub returns-then-is_empty : goal.returns-then-is_empty
-returns-then-is_empty c =
-    not_number_none c.args.word.now (grind (arith, nat_tests))
-
 pub loop-b-init : goal.loop-b-init
 loop-b-init c =
     digits_start c.args.word.now
-
-pub returns-then-not-is_ascii_digit : goal.returns-then-not-is_ascii_digit
-returns-then-not-is_ascii_digit c =
-    let l = c.loop-b in
-    not_number_byte c.args.word.now l.n l.b-index l.invariant c.loop-b-test.true
-    (sym c.is_ascii_digit.ensures.value ∙ c.if-not-is_ascii_digit.true)
 
 pub overflow_mul-n : goal.overflow_mul-n
 overflow_mul-n c =
@@ -31,12 +21,6 @@ overflow_mul-n c =
     let l = c.loop-b in
     digits_small _ l.n l.b-index l.invariant (omega arith) in
     omega (arith, small)
-
-pub overflow_sub-b : goal.overflow_sub-b
-overflow_sub-b c =
-    let digit : is_digit (get_or c.args.word.now c.loop-b.b-index 0) ≡ true = sym c.is_ascii_digit.ensures.value ∙ c.if-not-is_ascii_digit.false in
-    let low : 48 ≤ get_or c.args.word.now c.loop-b.b-index 0 = digit_above _ digit in
-    omega (arith, low)
 
 pub overflow_add-n : goal.overflow_add-n
 overflow_add-n c =
@@ -47,13 +31,3 @@ overflow_add-n c =
     digits_small _ l.n l.b-index l.invariant (omega arith) in
     omega (arith, small, high)
 
-pub loop-b-preserved : goal.loop-b-preserved
-loop-b-preserved c =
-    let digit : is_digit (get_or c.args.word.now c.loop-b.b-index 0) ≡ true = sym c.is_ascii_digit.ensures.value ∙ c.if-not-is_ascii_digit.false in
-    let l = c.loop-b in
-    rw (c.from.ensures) (digits_step _ l.n l.b-index l.invariant c.loop-b-test.true digit)
-
-pub returns : goal.returns
-returns c =
-    let l = c.loop-b in
-    digits_done c.args.word.now l.n l.b-index l.invariant c.loop-b-test.false (grind (arith, nat_tests)) (omega arith)

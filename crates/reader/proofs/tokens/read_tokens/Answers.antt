@@ -6,33 +6,6 @@ use Rattle.reader.proofs.StepLaws.{held}
 use Rattle.reader.proofs.StoreLaws.{progress_start, progress_step, progress_refused, progress_ended}
 use Rattle.reader.proofs.tokens.read_tokens.Goals as goal
 
-pub loop-x-init : goal.loop-x-init
-loop-x-init c =
-    progress_start c.args.h c.args.text.now c.args.from c.args.entries.now
-
-pub next_step-requires : goal.next_step-requires
-next_step-requires c =
-    c.requires.0
-
-pub offset_bounds-entries-c : goal.offset_bounds-entries-c
-offset_bounds-entries-c c =
-    let kept : let s = c.args in After s.h s.text.now c.loop-x.c (left s.h s.text.now c.loop-x.c) c.in-Some.x c.in-Some.next =
-    (rw c.in-Some.is at c.in_ok-x.ensures).judges in
-    omega (arith, kept.room)
-
-pub bounds-entries-c : goal.bounds-entries-c
-bounds-entries-c c =
-    let kept : let s = c.args in After s.h s.text.now c.loop-x.c (left s.h s.text.now c.loop-x.c) c.in-Some.x c.in-Some.next =
-    (rw c.in-Some.is at c.in_ok-x.ensures).judges in
-    let l = c.loop-x in
-    omega (arith, kept.room, l.invariant.long, c.requires.1)
-
-pub loop-x-smaller : goal.loop-x-smaller
-loop-x-smaller c =
-    let kept : let s = c.args in After s.h s.text.now c.loop-x.c (left s.h s.text.now c.loop-x.c) c.in-Some.x c.in-Some.next =
-    (rw c.in-Some.is at c.in_ok-x.ensures).judges in
-    omega (arith, kept.onward, kept.within)
-
 pub loop-x-preserved : goal.loop-x-preserved
 loop-x-preserved c =
     let kept : let s = c.args in After s.h s.text.now c.loop-x.c (left s.h s.text.now c.loop-x.c) c.in-Some.x c.in-Some.next =
