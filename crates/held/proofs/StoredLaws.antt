@@ -1,20 +1,19 @@
 -- The laws of specs/Stored: entries stored one behind the other.
 --
 --   entries_stored    a copy of the entries
---   Holding, holding-start, holding_room, holding_step, holding_done     the loop over held literals, two entries a turn
---   fits_first, fits_then, list_put     a list, and the held literals behind it
+--   Holding, holding_room, holding_done     the loop over held literals, two entries a turn
+--   list_put          a list, and the held literals behind it
 --   sets_append       one part behind the other
 --   put_front         the list is the front of the buffer
 --
 -- Assumes nothing.
-use mathlib.Core.Path.{◌≡◌, refl, sym, ◌∙◌, ap}
+use mathlib.Core.Path.{◌≡◌, sym, ◌∙◌, ap}
 use mathlib.Core.List.{List, [], ◌∷◌, ◌++◌}
 use Prim.Native.Nat.{ℕ, suc, ◌+◌, ◌≤◌, ◌<◌}
 use native.Mathlib.Omega.{arith}
-use native.Mathlib.Numerals.{add-one}
-use lib.IntN.{ℤ, pos}
-use lib.ListN.{get_or, set, length, take, drop, length-append, length-set, drop_of_length-le}
-use lib.Seq.{drop-cons, take_at, sets, length-sets, sets-eq}
+use lib.IntN.{ℤ}
+use lib.ListN.{set, length, take, drop, length-append, drop_of_length-le}
+use lib.Seq.{take_at, sets, sets-eq}
 use Rattle.rules.specs.Held.{held_entries, list_with}
 use Rattle.rules.proofs.HeldLaws.{length-held_entries}
 use Rattle.held.specs.Stored.{Fits, Stored, ListPut}
@@ -37,26 +36,10 @@ pub record Holding (held : List ℤ) (at : ℕ) (before : List ℤ) (i next : �
   pub len : length now ≡ length before
   pub rest : sets now next (held_entries (drop i held)) ≡ sets before at (held_entries held)
 
-pub holding-start : (held : List ℤ) (at : ℕ) (before : List ℤ) → Holding held at before 0 at before
-holding-start held at before = record { within = omega arith; next_is = omega arith; len = refl; rest = refl }
-
 module _ {held : List ℤ} {at : ℕ} {before : List ℤ} {i next : ℕ} {now : List ℤ} (w : Holding held at before i next now) where
   -- room for a literal and its zero
   pub holding_room : Fits (held_entries held) at before → i < length held → next + 1 < length now
   holding_room r h = omega (arith, r.fits, w.len, w.next_is, length-held_entries held)
-
-  pub holding_step : i < length held → Holding held at before (i + 1) (next + 2) (set (set now next (get_or held i (pos 0))) (next + 1) (pos 0))
-  holding_step h =
-      let l = get_or held i (pos 0) in
-      record {
-        within = omega arith;
-        next_is = omega (arith, w.next_is);
-        len = length-set (set now next l) (next + 1) (pos 0) ∙ length-set now next l ∙ w.len;
-        rest = rw (add-one i, add-one next, two) (ap (λ (ls : List ℤ). sets now next (held_entries ls)) (sym (drop-cons held i (pos 0) h)) ∙ w.rest);
-      }
-    where
-      two : next + 2 ≡ suc (suc next)
-      two = omega arith
 
   pub holding_done : length held ≤ i → Stored (held_entries held) at before next now
   holding_done h =
@@ -73,16 +56,7 @@ sets_append l i [] ys = ap (λ (k : ℕ). sets l k ys) (omega arith)
 sets_append l i (x ∷ xs) ys = sets_append (set l i x) (suc i) xs ys ∙ ap (λ (k : ℕ). sets (sets (set l i x) (suc i) xs) k ys) (omega arith)
 
 module _ (es held : List ℤ) {before : List ℤ} (r : Fits (list_with es held) 0 before) where
-  pub fits_first : Fits es 0 before
-  fits_first = record { fits = omega (arith, r.fits, length-append es (held_entries held)) }
-
   module _ {next : ℕ} {between : List ℤ} (p : Stored es 0 before next between) where
-    pub fits_then : Fits (held_entries held) next between
-    fits_then =
-        record {
-          fits = omega (arith, r.fits, length-append es (held_entries held), p.next_is, ap length p.after_is ∙ length-sets before 0 es);
-        }
-
     pub list_put : {last : ℕ} {after : List ℤ} → Stored (held_entries held) next between last after → ListPut es held before last after
     list_put {last} {after} q =
         record {

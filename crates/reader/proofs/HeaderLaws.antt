@@ -15,11 +15,11 @@ use Prim.Native.Nat.{ℕ, suc, ◌+◌, ◌-◌, ◌≤◌, ◌<◌}
 use native.Mathlib.Decide.{dec_lt}
 use native.Mathlib.Omega.{arith}
 use native.Mathlib.Numerals.{add-one}
-use borrow.Author.Tests.{eq-eqb, ne_eqb, le-leb, lt-leb}
+use borrow.Author.Tests.{le-leb, lt-leb}
 use lib.Dec.{eqb, leb}
 use lib.Pointwise.{pointwise}
 use lib.ListN.{length, get_or, take, drop, drop_of_length-le, length-drop}
-use lib.Seq.{drop-cons, take-suc, take_all, drop-drop, length-take-le}
+use lib.Seq.{take-suc, take_all, drop-drop, length-take-le}
 use Rattle.std.specs.Prelude.{Option, None, Some}
 use Rattle.rules.specs.Lists.{keep, nth_index, cut, eqs}
 use Rattle.rules.specs.declared.ReadAnswer.{ReadAnswer}

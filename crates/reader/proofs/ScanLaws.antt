@@ -1,7 +1,7 @@
 -- The laws of `first_from` (specs/Scan): the search as a loop goes over it, what is left behind and ahead of what it finds, and the
 -- words of a text, found one by one.
 --
---   first_here, first_past, first_end     one turn of the search at index i, and its end
+--   first_end                     the search behind the list
 --   first_le, from_le             it stays within the list, and does not go back
 --   first_none, first_all, first_stops    before what is found none passes; all pass the opposite test; it is found or the end is
 --   words_from_lem, words_none, words_next, words_onward     separators are passed over; no word is left; the next word and the rest, further on
@@ -12,10 +12,9 @@ use mathlib.Core.Bool.{Bool, true, false, not}
 use mathlib.Core.List.{List, [], ◌∷◌}
 use Prim.Native.Nat.{ℕ, suc, ◌+◌, ◌-◌, ◌≤◌, ◌<◌}
 use native.Mathlib.Omega.{arith}
-use native.Mathlib.Numerals.{add-one}
 use borrow.Author.Tests.{not-true}
-use lib.ListN.{length, get_or, take, drop, take-append-drop, drop_of_length-le, length-drop}
-use lib.Seq.{drop-cons, drop-drop, length-take-le}
+use lib.ListN.{length, take, drop, take-append-drop, drop_of_length-le, length-drop}
+use lib.Seq.{drop-drop, length-take-le}
 use Rattle.rules.specs.Lists.{any, all, nth_index, index_if}
 use Rattle.texts.specs.Text.{Piece}
 use Rattle.texts.proofs.CutLaws.{Stops, at_end, at_one, words_from, words_from_blanks, words_from_word}
@@ -23,12 +22,6 @@ use Rattle.reader.specs.Scan.{first_from}
 
 module _ (p : ℕ → Bool) where
   -- ---- the search
-
-  pub first_here : (s : List ℕ) (i : ℕ) → i < length s → p (get_or s i 0) ≡ true → first_from p s i ≡ i
-  first_here s i h e = rw (drop-cons s i 0 h, e) (omega arith)
-
-  pub first_past : (s : List ℕ) (i : ℕ) → i < length s → p (get_or s i 0) ≡ false → first_from p s i ≡ first_from p s (i + 1)
-  first_past s i h e = rw (add-one i, drop-cons s i 0 h, e) (omega arith)
 
   pub first_end : (s : List ℕ) (i : ℕ) → length s ≤ i → first_from p s i ≡ i
   first_end s i h = rw (drop_of_length-le s h) (omega arith)

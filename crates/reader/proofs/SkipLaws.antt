@@ -1,8 +1,6 @@
 -- The laws of what stands between the tokens (specs/Skips), and of the token behind it.
 --
---   comment_none, comment_here    whether a line that starts at a place is a comment
 --   past_blank, past_lf, past_comment     behind a blank; an LF with no comment behind it; one with a comment
---   passed_start, passed_step     what is passed over, blank by blank
 --   tokens_here                   the token at a place, and the tokens behind it; token_lt: it has a byte
 --
 -- Assumes nothing.
@@ -13,24 +11,17 @@ use Prim.Native.Nat.{ℕ, suc, ◌+◌, ◌-◌, ◌≤◌, ◌<◌}
 use native.Mathlib.Omega.{arith}
 use native.Mathlib.Numerals.{add-one}
 use borrow.Author.Tests.{eqb-true}
-use lib.Dec.{eqb}
-use lib.ListN.{length, get_or, take, drop, take-append-drop, drop_of_length-le}
+use lib.ListN.{length, get_or, take, drop, take-append-drop}
 use lib.Seq.{drop-cons, drop-drop, length-take-le}
 use Rattle.rules.specs.Lists.{nth_index}
 use Rattle.texts.specs.Text.{is_lf, is_blank, is_comment, Piece, tokens_from}
 use Rattle.rules.proofs.ListLaws.{never}
 use Rattle.texts.proofs.BodyLaws.{tokens_blank, tokens_comment, tokens_word}
 use Rattle.reader.specs.Scan.{first_from}
-use Rattle.reader.specs.Skips.{Passed, Past}
+use Rattle.reader.specs.Skips.{Past}
 use Rattle.reader.proofs.ScanLaws.{first_le, first_none, first_stops, from_le}
 
 -- ---- a comment line
-
-pub comment_none : (text : List ℕ) (at : ℕ) → length text ≤ at → is_comment (drop at text) ≡ false
-comment_none text at h = ap is_comment (drop_of_length-le text h)
-
-pub comment_here : (text : List ℕ) (at : ℕ) → at < length text → is_comment (drop at text) ≡ eqb (get_or text at 0) 99
-comment_here text at h = ap is_comment (drop-cons text at 0 h)
 
 -- an LF and a comment line behind it: the tokens are those from the end of that line on
 to_line_end : (i : ℕ) (xs : List ℕ) → tokens_from i (10 ∷ 99 ∷ xs) ≡ tokens_from (i + 2 + nth_index is_lf xs 0) (drop (nth_index is_lf xs 0) xs)
@@ -91,14 +82,6 @@ module _ (text : List ℕ) (i : ℕ) (h : i < length text) (b : is_blank (get_or
             further = omega arith;
             within = omega (arith, place, from_le is_lf text (i + 1) (omega arith));
           })
-
--- ---- blank by blank
-
-pub passed_start : (text : List ℕ) (at : ℕ) → Passed text at at
-passed_start text at = record { same = refl; onward = omega arith }
-
-pub passed_step : {text : List ℕ} {at i r : ℕ} → Passed text at i → Passed text i r → Passed text at r
-passed_step p q = record { same = q.same ∙ p.same; onward = omega (arith, p.onward, q.onward) }
 
 -- ---- the token at a place
 

@@ -1,9 +1,8 @@
 -- The laws of one step over the tokens (specs/Steps): the entry as a signed number, the step as src/tokens.rt takes it, and what
 -- the text is judged to after it.
 --
---   minus_fits, minus_is, plain_is, held, value_back     the entry as the machine holds it
+--   held, value_back              the entry as the machine holds it
 --   var_is, zero_is               its variable, and whether it closes a clause
---   stored                        an entry to store and the cursor behind it
 --   step_short, step_end          the step at the end of text
 --   step_percent, step_bad, step_entry     at a closing `%`, at a malformed token, at an entry
 --   step_of                       a step that is another
@@ -18,10 +17,10 @@ use native.Mathlib.Omega.{arith}
 use native.Mathlib.Numerals.{add-one}
 use borrow.Author.Tests.{leb-false, ltb-false, lt-ltb, le-ltb}
 use lib.Dec.{eqb, leb, ltb, eqb-suc-zero}
-use lib.IntN.{ℤ, pos, negsuc, nat_abs, neg_ℤ, ◌-ℤ◌, +ℤ_idl}
+use lib.IntN.{ℤ, pos, negsuc, nat_abs}
 use lib.ListN.{length, take, drop, drop_of_length-le}
 use mir.Syntax.{w32}
-use mir.Val.{SFits, to_z, of_z}
+use mir.Val.{to_z, of_z}
 use Rattle.std.specs.Prelude.{None, Some, Ok, Err}
 use Rattle.rules.specs.declared.ReadAnswer.{ReadAnswer}
 use Rattle.rules.specs.Lists.{first_of, or_next, count_if, is_zero}
@@ -42,24 +41,6 @@ use Rattle.reader.proofs.ScanLaws.{from_le}
 use Rattle.reader.proofs.SkipLaws.{tokens_here, token_lt}
 use Rattle.reader.proofs.TokenLaws.{bad_of_token, entry_of_token}
 
--- ---- the entry as the machine holds it
-
-small_plain : (n : ℕ) → n ≤ max_number → SFits w32 (pos n)
-small_plain n h = record { sfits = omega arith }
-
-small_minus : (n : ℕ) → n ≤ max_number → SFits w32 (neg_ℤ (pos n))
-small_minus zero h = record { sfits = omega arith }
-small_minus (suc n) h = record { sfits = omega arith }
-
-pub plain_is : (n : ℕ) → n ≤ max_number → to_z w32 n ≡ pos n
-plain_is n h = to_z-of_z_at (pos n) (small_plain n h)
-
-pub minus_fits : (n : ℕ) → n ≤ max_number → SFits w32 (pos 0 -ℤ to_z w32 n)
-minus_fits n h = rw (plain_is n h, +ℤ_idl) (small_minus n h)
-
-pub minus_is : (n : ℕ) → n ≤ max_number → to_z w32 (of_z w32 (pos 0 -ℤ to_z w32 n)) ≡ neg_ℤ (pos n)
-minus_is n h = rw (plain_is n h, +ℤ_idl) (to_z-of_z_at (neg_ℤ (pos n)) (small_minus n h))
-
 -- ---- its variable, and whether it closes a clause
 
 pub var_is : (e : Entry) → nat_abs (value_of e) ≡ e.number
@@ -78,7 +59,7 @@ zero_is e = go e.minus e.number
     go true (suc n) = sym (eqb-suc-zero n)
     go false n = refl
 
--- ---- and back from its bits
+-- ---- the entry as the machine holds it
 
 pub held : (l : ℤ) → nat_abs l ≤ max_number → to_z w32 (of_z w32 l) ≡ l
 held (pos n) h = to_z-of_z_at (pos n) (record { sfits = omega arith })
@@ -88,9 +69,6 @@ pub value_back : (e : Entry) → e.number ≤ max_number → to_z w32 (of_z w32 
 value_back e h = held (value_of e) (omega (arith, var_is e))
 
 -- ---- the step at the cursor
-
-abbrev pub stored : ℤ → Cursor → Step
-stored l next = Ok (Some (l, next))
 
 no_rule : (b : Bool) (a : ReadAnswer) (o : Maybe ReadAnswer) → or_next b a o ≡ none → (b ≡ false) × (o ≡ none)
 no_rule true a o e = apart cc

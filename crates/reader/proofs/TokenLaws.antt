@@ -1,6 +1,5 @@
 -- The laws of tokens as src/token.rt reads them.
 --
---   signed-plain, signed_zero     a number with a minus or without; -0
 --   token_none, token_minus, token_plain     a token by its first byte
 --   entry_of_token, bad_of_token  what is read says what the token says
 --
@@ -20,20 +19,6 @@ use Rattle.texts.specs.Text.{is_numeral, numeral, negative_of, entry_if, entry_o
 use Rattle.reader.specs.declared.token.Entry.{Entry}
 use Rattle.reader.specs.Words.{number_if, number_of, value_of, token_of, signed_token}
 use Rattle.rules.proofs.ListLaws.{apart}
-
--- ---- a number with a minus or without
-
-pub signed_zero : (minus : Bool) (n : ℕ) → minus ≡ true → n ≡ 0 → None ≡ signed_token minus (Some n)
-signed_zero minus n e z = rw (e, z)
-
-pub signed_minus : (minus : Bool) (n : ℕ) → (n ≡ 0 → ⊥) → Some (record { minus = minus; number = n }) ≡ signed_token minus (Some n)
-signed_minus true zero h = absurd (h refl)
-signed_minus true (suc n) h = refl
-signed_minus false n h = refl
-
-pub signed-plain :
-    (minus : Bool) (n : ℕ) → minus ≡ false → Some (record { minus = minus; number = n }) ≡ signed_token minus (Some n)
-signed-plain minus n e = rw e
 
 -- ---- a token by its first byte
 

@@ -28,7 +28,12 @@ use store::clear;
 use tokens::read_tokens;
 
 // The line from `from` up to `to` has to be the header: 3 before 4, then the tokens behind it.
-fn read_header(text: &[u8], from: usize, to: usize, entries: &mut [i32]) -> Result<Reading, ReadAnswer>
+fn read_header(
+    text: &[u8],
+    from: usize,
+    to: usize,
+    entries: &mut [i32],
+) -> Result<Reading, ReadAnswer>
     requires { (from ≤ to) × (to ≤ length text.now) × (max_entries ≤ length entries.old) }
     ensures { Stores (judge_line_at text.now from to) entries.old (reading result) entries.new }
 {

@@ -19,6 +19,7 @@ pub fn first_line(text: &[u8]) -> Option<(usize, usize)>
     ensures { result ≡ first_line (lines_of text.now) }
 {
     let mut at = 0;
+    // Stays a `while`: a step goes over a whole line.
     while at <= text.len() {
         let end = find(text, at, |b| b == b'\n');
         if !is_skipped(&text[at..end]) {

@@ -32,6 +32,7 @@ pub fn next_token(text: &[u8], at: usize) -> usize
     ensures { Skips text.now at result }
 {
     let mut i = at;
+    // Stays a `while`: a step goes over a blank, or over a whole comment line.
     while i < text.len() {
         let b = text[i];
         if !is_blank(b) {

@@ -7,9 +7,10 @@ ghost use Rattle.reader.specs.Steps.{entry_step, Steps, start, left};
 ghost use Rattle.reader.specs.Stores.{Stores, reading};
 
 use crate::header::Header;
+use crate::next::Spot;
 use crate::scan::{find, is_blank};
 use crate::skip::next_token;
-use crate::token::{Entry, token_of, value_of};
+use crate::token::{token_of, value_of};
 use rules::{MAX_ENTRIES, ReadAnswer, Reading};
 
 // Where the reading stands: its next byte, the clauses complete and the entries stored.
@@ -20,36 +21,30 @@ pub struct Cursor {
     pub entries: usize,
 }
 
-// The entry that stands from `from` up to `to`: 6, 7, 8, or it is stored, and the cursor behind it.
-fn judge_entry(
-    h: Header,
-    c: Cursor,
-    from: usize,
-    to: usize,
-    e: Entry,
-) -> Result<Option<(i32, Cursor)>, ReadAnswer>
+// The entry that stands at a spot: 6, 7, 8, or it is stored, and the cursor behind it.
+fn judge_entry(h: Header, c: Cursor, spot: Spot) -> Result<Option<(i32, Cursor)>, ReadAnswer>
     requires { h.vars ≤ max_vars }
-    ensures { result ≡ entry_step h c from to (value_of e) }
+    ensures { result ≡ entry_step h c spot.from spot.to (value_of spot.entry) }
 {
     if h.clauses <= c.clauses {
-        return Err(ReadAnswer::TokenBehind(from));
+        return Err(ReadAnswer::TokenBehind(spot.from));
     }
-    if h.vars < e.number {
-        return Err(ReadAnswer::TokenOverVars(from));
+    if h.vars < spot.entry.number {
+        return Err(ReadAnswer::TokenOverVars(spot.from));
     }
     if MAX_ENTRIES <= c.entries {
-        return Err(ReadAnswer::ManyTokens(from));
+        return Err(ReadAnswer::ManyTokens(spot.from));
     }
     let mut clauses = c.clauses;
-    if e.number == 0 {
+    if spot.entry.number == 0 {
         clauses += 1;
     }
     let next = Cursor {
-        at: to,
+        at: spot.to,
         clauses,
         entries: c.entries + 1,
     };
-    Ok(Some((value_of(e), next)))
+    Ok(Some((value_of(spot.entry), next)))
 }
 
 // Whether a token is a `%` behind the last clause: then nothing behind it is read.
@@ -76,16 +71,21 @@ fn next_step(text: &[u8], h: Header, c: Cursor) -> Result<Option<(i32, Cursor)>,
     if ends_text(h, c, &text[from..to]) {
         return Ok(None);
     }
-    let Some(e) = token_of(&text[from..to]) else {
+    let Some(entry) = token_of(&text[from..to]) else {
         return Err(ReadAnswer::BadToken(from));
     };
-    judge_entry(h, c, from, to, e)
+    judge_entry(h, c, Spot { from, to, entry })
 }
 
 // Stores the entries that stand from `from` on, or refuses.
 // Rules out: 6 where 5 is due; an entry left out.
 // Required of: read_header, whose header is within the sizes.
-pub fn read_tokens(text: &[u8], h: Header, from: usize, entries: &mut [i32]) -> Result<Reading, ReadAnswer>
+pub fn read_tokens(
+    text: &[u8],
+    h: Header,
+    from: usize,
+    entries: &mut [i32],
+) -> Result<Reading, ReadAnswer>
     requires { (h.vars ≤ max_vars) × (max_entries ≤ length entries.old) }
     ensures { Stores (left h text.now (start from)) entries.old (reading result) entries.new }
 {

@@ -17,7 +17,7 @@ pub fn read_input(rt: &(impl io::Input + Eprint), text: &mut [u8]) -> Option<usi
     let mut count: usize = 0;
     // Stays a `while`: how far the index goes is what a read gives.
     while count < text.len() {
-        let Ok(n) = input.read(&mut text[count..]) else {
+        let Ok(n) = Read::read(&mut input, &mut text[count..]) else {
             complain(rt, b"standard input", b"reading failed");
             return None;
         };

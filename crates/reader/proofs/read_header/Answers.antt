@@ -1,10 +1,10 @@
 -- `reader::read_header` meets its contract. By what the line says, and whether it fits. Assumes nothing.
 use mathlib.Core.Path.{◌≡◌, sym, ◌∙◌}
-use mathlib.Core.Bool.{true, false}
+use mathlib.Core.Bool.{true}
 use Rattle.texts.specs.Reading.{fits}
 use Rattle.reader.specs.Words.{sizes}
-use Rattle.reader.proofs.HeaderLaws.{line_bad, line_large, line_fits, large_vars, large_clauses, small_both}
-use Rattle.reader.proofs.StoreLaws.{stores_of, stores_refused}
+use Rattle.reader.proofs.HeaderLaws.{line_fits, small_both}
+use Rattle.reader.proofs.StoreLaws.{stores_of}
 use Rattle.reader.proofs.read_header.Goals as goal
 
 pub returns : goal.returns

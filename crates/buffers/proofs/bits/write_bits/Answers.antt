@@ -10,4 +10,5 @@ loop-value-preserved c =
     let l = c.loop-value in
     let x = get_or l.values l.value-index 0 in
     rw c.bit_of.ensures
-    (map_over_more bit_of c.args.values.now l.values l.value-index x c.loop-value-test.true l.invariant (get_or_default l.values l.value-index 0 x (omega arith)))
+    (map_over_more bit_of c.args.values.now l.values l.value-index x c.loop-value-test.true l.invariant
+    (get_or_default l.values l.value-index 0 x (omega arith)))

@@ -1,8 +1,7 @@
 -- `reader::header::header_of` meets its contract. A header is the words of the line without the blanks behind. Assumes nothing.
-use mathlib.Core.Path.{sym, ◌∙◌, ap}
+use mathlib.Core.Path.{◌∙◌, ap}
 use mathlib.Core.List.{List}
 use Prim.Native.Nat.{ℕ}
-use lib.Seq.{length-take-le}
 use Rattle.rules.specs.Lists.{cut}
 use Rattle.texts.specs.Text.{is_gap, sizes_of, words_of, header_of}
 use Rattle.reader.specs.Words.{header_line}

@@ -1,7 +1,6 @@
 -- `reader::header::sizes_of` meets its contract. By the tests on the way, in the order of the definition. Assumes nothing.
-use Rattle.std.proofs.Common.{[], ◌∷◌, sym, ◌∙◌}
+use Rattle.std.proofs.Common.{[], ◌∷◌}
 use Rattle.reader.proofs.HeaderLaws.{word_other}
-use Rattle.reader.proofs.NumberLaws.{number_bad, number_good}
 use Rattle.reader.proofs.header.sizes_of.Goals as goal
 
 pub returns-then-ne : goal.returns-then-ne
@@ -16,4 +15,3 @@ returns-then-ne c =
             word_other cnf (99 ∷ 110 ∷ 102 ∷ []) w.ne-else-ne.ensures w.as_slice-else-ne.ensures w.if-ne-2.true,
           )
     ]
-

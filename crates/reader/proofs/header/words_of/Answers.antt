@@ -1,10 +1,9 @@
 -- `reader::header::words_of` meets its contract. What the eight searches find are the cuts of the line. Assumes nothing.
 use mathlib.Core.Path.{sym, ap}
-use lib.Seq.{length-take-le}
 use Rattle.std.proofs.Common.{not, rules}
 use Rattle.texts.specs.Text.{is_gap}
 use Rattle.reader.specs.Words.{header_line}
-use Rattle.reader.proofs.HeaderLaws.{Cuts, cuts_within, header_four, words_more}
+use Rattle.reader.proofs.HeaderLaws.{Cuts, header_four, words_more}
 use Rattle.reader.proofs.header.words_of.Goals as goal
 
 pub returns-then-more-line : goal.returns-then-more-line

@@ -5,7 +5,7 @@ use borrow.Author.Rules.{rules}
 use Rattle.texts.specs.Text.{is_lf, lines_of}
 use Rattle.reader.specs.Scan.{first_from}
 use Rattle.reader.proofs.ScanLaws.{from_le}
-use Rattle.reader.proofs.LineLaws.{lines_end, line_found, line_past}
+use Rattle.reader.proofs.LineLaws.{line_found, line_past}
 use Rattle.reader.proofs.line.first_line.Goals as goal
 
 pub loop-at-init : goal.loop-at-init
@@ -32,4 +32,3 @@ loop-at-preserved c =
           (line_past c.args.text.now l.at c.find-end.result end_is c.loop-at-test.true
           (sym c.is_skipped.ensures ∙ c.if-not-is_skipped.false)) ∙ l.invariant.1,
     )
-

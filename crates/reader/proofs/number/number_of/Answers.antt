@@ -4,11 +4,9 @@ use mathlib.Core.Path.{◌≡◌, sym, ◌∙◌}
 use Prim.Native.Nat.{◌<◌, ◌≤◌}
 use native.Mathlib.Omega.{arith}
 use lib.ListN.{get_or}
-use Rattle.std.proofs.lemmas.Bool.Decides.{nat_tests}
 use Rattle.texts.specs.Text.{is_digit}
-use Rattle.texts.proofs.TokenLaws.{digit_above, digit_most}
-use Rattle.reader.proofs.NumberLaws.{not_number_none, not_number_byte}
-use Rattle.reader.proofs.NumberLaws.{digits_start, digits_small, digits_step, digits_done}
+use Rattle.texts.proofs.TokenLaws.{digit_most}
+use Rattle.reader.proofs.NumberLaws.{digits_start, digits_small}
 use Rattle.reader.proofs.number.number_of.Goals as goal
 
 pub loop-b-init : goal.loop-b-init
@@ -30,4 +28,3 @@ overflow_add-n c =
     let l = c.loop-b in
     digits_small _ l.n l.b-index l.invariant (omega arith) in
     omega (arith, small, high)
-

@@ -3,7 +3,7 @@ use Rattle.std.proofs.Common.{arith}
 use Rattle.std.proofs.lemmas.Result.{err_from_is_err_and}
 use Rattle.reader.specs.Steps.{After, left}
 use Rattle.reader.proofs.StepLaws.{held}
-use Rattle.reader.proofs.StoreLaws.{progress_start, progress_step, progress_refused, progress_ended}
+use Rattle.reader.proofs.StoreLaws.{progress_step, progress_refused, progress_ended}
 use Rattle.reader.proofs.tokens.read_tokens.Goals as goal
 
 pub loop-x-preserved : goal.loop-x-preserved
