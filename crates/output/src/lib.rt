@@ -14,6 +14,5 @@ pub fn write_table(rt: &(impl Print + Eprint), text: &[u8], held: &[i32]) {
 
 // Prints the table of a text with nothing held.
 pub fn write_plain(rt: &(impl Print + Eprint), text: &[u8]) {
-    let none = [0i32; 1];
-    write_table(rt, text, &none[..0]);
+    write_table(rt, text, &[]);
 }

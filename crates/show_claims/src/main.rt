@@ -2,9 +2,7 @@
 
 // The program that checks what another tool claims (docs/RULES.md, "The printed verdict"): on standard input a text and, right behind it, the file of
 // claims; its argument is how many bytes the text has. One byte more than each may have is kept, so that a longer one is refused with 2.
-use arguments::{Argument, number_at};
-use formula::lit::{sign, var_of};
-use rules::Lit;
+use arguments::{NoNumber, number_at};
 use streams::{complain, read_input, write_output};
 
 fn write_answer(rt: &(impl Print + Eprint), text: &[u8], claims: &[u8]) {
@@ -24,24 +22,17 @@ fn split(rt: &(impl Print + Eprint), both: &[u8], length: usize) {
 
 fn answer(rt: &(impl Input + Print + Eprint), length: u32) {
     let mut both = [0u8; 2 * (rules::MAX_TEXT + 1)];
-    let input = read_input(rt, &mut both);
-    if input.failed {
+    let Some(n) = read_input(rt, &mut both) else {
         return;
-    }
-    let n = input.count;
+    };
     split(rt, &both[..n], length as usize);
 }
 
-// A number below 0 is no length, as no text is that short.
-fn length_of(number: Lit) -> u32 {
-    if sign(number) { var_of(number).0 } else { 0 }
-}
-
 fn main(rt: HostRuntime) {
-    let argument = number_at(&rt, 1);
-    match argument {
-        Argument::Missing => complain(&rt, b"claims", b"the length of the text is missing"),
-        Argument::NoNumber => complain(&rt, b"claims", b"the length of the text is no number"),
-        Argument::Is(number) => answer(&rt, length_of(Lit(number))),
+    match number_at(&rt, 1) {
+        Ok(None) => complain(&rt, b"claims", b"the length of the text is missing"),
+        Err(NoNumber) => complain(&rt, b"claims", b"the length of the text is no number"),
+        // A number below 0 is no length, as no text is that short.
+        Ok(Some(number)) => answer(&rt, u32::try_from(number).unwrap_or(0)),
     }
 }

@@ -12,10 +12,8 @@ fn write_shorter(rt: &(impl Print + Eprint), text: &[u8]) {
 
 fn main(rt: HostRuntime) {
     let mut text = [0u8; rules::MAX_TEXT + 1];
-    let input = read_input(&rt, &mut text);
-    if input.failed {
+    let Some(n) = read_input(&rt, &mut text) else {
         return;
-    }
-    let n = input.count;
+    };
     write_shorter(&rt, &text[..n]);
 }

@@ -5,16 +5,9 @@
 ghost use Rattle.std.specs.Prelude.{◌≤◌, length};
 ghost use Rattle.table.specs.Words.{Kept};
 
-use arguments::{Argument, number_at};
+use arguments::{NoNumber, number_at};
 use std::rt::Env;
 use streams::{complain, read_input};
-
-// What the words say that the program is started with.
-#[derive(Clone, Copy)]
-pub enum Words {
-    NoNumber,
-    Numbers(usize),
-}
 
 // Stores a number behind n others if there is room, and answers how many are stored then.
 fn store(held: &mut [i32], n: usize, number: i32) -> usize
@@ -29,38 +22,31 @@ fn store(held: &mut [i32], n: usize, number: i32) -> usize
 }
 
 // All words but the first, which is the program's own name: numbers, of which as many are stored as there is room for.
-fn read_held(rt: &impl Env, held: &mut [i32]) -> Words
+fn read_held(rt: &impl Env, held: &mut [i32]) -> Result<usize, NoNumber>
     ensures { Kept result (length held.new) }
 {
     let mut n: usize = 0;
     for i in 1..usize::MAX {
-        let word = number_at(rt, i);
-        match word {
-            Argument::Missing => break,
-            Argument::NoNumber => return Words::NoNumber,
-            Argument::Is(number) => {
-                n = store(held, n, number);
-            }
-        }
+        let Some(number) = number_at(rt, i)? else {
+            break;
+        };
+        n = store(held, n, number);
     }
-    Words::Numbers(n)
+    Ok(n)
 }
 
 fn show(rt: &(impl Input + Print + Eprint), held: &[i32]) {
     let mut text = [0u8; rules::MAX_TEXT + 1];
-    let input = read_input(rt, &mut text);
-    if input.failed {
+    let Some(n) = read_input(rt, &mut text) else {
         return;
-    }
-    let n = input.count;
+    };
     output::write_table(rt, &text[..n], held);
 }
 
 fn main(rt: HostRuntime) {
     let mut held = [0i32; rules::MAX_HELD + 1];
-    let words = read_held(&rt, &mut held);
-    match words {
-        Words::NoNumber => complain(&rt, b"table", b"a held literal is no number"),
-        Words::Numbers(n) => show(&rt, &held[..n]),
+    match read_held(&rt, &mut held) {
+        Ok(n) => show(&rt, &held[..n]),
+        Err(NoNumber) => complain(&rt, b"table", b"a held literal is no number"),
     }
 }

@@ -2,7 +2,7 @@
 
 // The program that says why a switch is greyed out (docs/RULES.md, "The printed reason"): a literal as its argument, a text on standard
 // input. One byte more than a text may have is kept, so that a longer one is refused with 2.
-use arguments::{Argument, number_at};
+use arguments::{NoNumber, number_at};
 use rules::Lit;
 use streams::{complain, read_input, write_output};
 
@@ -14,19 +14,16 @@ fn write_answer(rt: &(impl Print + Eprint), text: &[u8], literal: Lit) {
 
 fn answer(rt: &(impl Input + Print + Eprint), literal: Lit) {
     let mut text = [0u8; rules::MAX_TEXT + 1];
-    let input = read_input(rt, &mut text);
-    if input.failed {
+    let Some(n) = read_input(rt, &mut text) else {
         return;
-    }
-    let n = input.count;
+    };
     write_answer(rt, &text[..n], literal);
 }
 
 fn main(rt: HostRuntime) {
-    let argument = number_at(&rt, 1);
-    match argument {
-        Argument::Missing => complain(&rt, b"why", b"a literal is missing"),
-        Argument::NoNumber => complain(&rt, b"why", b"the literal is no number"),
-        Argument::Is(number) => answer(&rt, Lit(number)),
+    match number_at(&rt, 1) {
+        Ok(None) => complain(&rt, b"why", b"a literal is missing"),
+        Err(NoNumber) => complain(&rt, b"why", b"the literal is no number"),
+        Ok(Some(number)) => answer(&rt, Lit(number)),
     }
 }
