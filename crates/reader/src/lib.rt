@@ -69,7 +69,6 @@ pub fn read(text: &[u8], entries: &mut [i32]) -> Reading
         return refused(ReadAnswer::LongText);
     }
     let r = read_text(text, entries).unwrap_or_else(refused);
-    let n = r.entries;
-    clear(entries, n);
+    clear(entries, r.entries);
     r
 }

@@ -19,6 +19,7 @@ pub fn is_blank(b: u8) -> bool
 
 // The index of the first byte from `at` on that passes, or the length if there is none, or `at` where that is more.
 // Rules out: a later byte that passes; the length where one stands before it.
+// Required of: whoever searches, with a test that may be called at any byte.
 pub fn find<P: Fn(u8) -> bool>(s: &[u8], at: usize, passes: P) -> usize
     requires { P.IsAlwaysCallable passes }
     ensures first { (test : ℕ → Bool) → Computes (P.post passes) test → result ≡ first_from test s.now at }

@@ -33,11 +33,7 @@ pub fn next_token(text: &[u8], at: usize) -> usize
 {
     let mut i = at;
     // Stays a `while`: a step goes over a blank, or over a whole comment line.
-    while i < text.len() {
-        let b = text[i];
-        if !is_blank(b) {
-            return i;
-        }
+    while i < text.len() && is_blank(text[i]) {
         i = past_blank(text, i);
     }
     i
