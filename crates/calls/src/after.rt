@@ -53,8 +53,8 @@ pub fn after_model(
         Row {
             outcome: Outcome::Model,
             chunk: made.chunk,
-            by_compare: by_compare,
-            by_flip: by_flip,
+            by_compare,
+            by_flip,
             spent: made.spent,
         },
     );
@@ -75,11 +75,7 @@ pub fn doubled(size: u32, limit: u32) -> u32
     requires { size ≤ 256 }
     ensures { result ≡ doubled size limit }
 {
-    if size + size < limit {
-        size + size
-    } else {
-        limit
-    }
+    (size + size).min(limit)
 }
 
 // After none: the whole chunk is forced, and the chunk size doubles, up to the limit.
@@ -143,7 +139,7 @@ pub fn row_only(log: &mut [u32], t: Tally, outcome: Outcome, made: Made) -> Repo
         t.calls,
         t.tries,
         Row {
-            outcome: outcome,
+            outcome,
             chunk: made.chunk,
             by_compare: 0,
             by_flip: 0,
@@ -153,7 +149,7 @@ pub fn row_only(log: &mut [u32], t: Tally, outcome: Outcome, made: Made) -> Repo
     let calls = t.calls + 1;
     Report {
         answer: answer_of(outcome),
-        calls: calls,
+        calls,
         tries: made.spent,
         forced: t.forced,
         free: t.free,

@@ -1,6 +1,6 @@
 // The calls of a run after the first (docs/RULES.md, "Run"): while candidates remain, a call on the formula, the literals forced so far,
 // and that one of the chunk is false.
-ghost use Rattle.std.specs.Prelude.{◌≡◌, min, length};
+ghost use Rattle.std.specs.Prelude.{length};
 ghost use Rattle.search.specs.Rooms.{BoardKept};
 ghost use Rattle.calls.specs.Next.{ChunkOver, ChunkCalled, CallDue, CalledFrom};
 ghost use Rattle.calls.specs.Records.{RunOver, RunEnds};
@@ -20,13 +20,6 @@ use steps::records::put_records;
 pub struct Limits {
     pub budget: u32,
     pub chunk: u32,
-}
-
-// The lesser of two numbers.
-fn lesser(a: u32, b: u32) -> u32
-    ensures { result ≡ min a b }
-{
-    if a < b { a } else { b }
 }
 
 // A call from the forced values, with the constraint of a chunk as the clause after the last one.
@@ -108,7 +101,7 @@ fn next_call(
         × BoardKept (length status.old) entries.now room.new.lists.now room.new.holders.now room.new.marks.now
         room.new.board.values.now room.new.board.keys.now room.new.board.hot.now room.new.board.trail.now }
 {
-    let chunk = lesser(t.size, t.candidates);
+    let chunk = t.size.min(t.candidates);
     let meter = Meter {
         budget: limits.budget,
         spent: t.tries,
@@ -116,7 +109,7 @@ fn next_call(
     let end = chunk_in(entries, starts, first, status, room, values, chunk, meter);
     let after = end.meter;
     let made = Made {
-        chunk: chunk,
+        chunk,
         spent: after.spent,
     };
     let outcome = end.outcome;

@@ -2,10 +2,6 @@
 use Rattle.board.proofs.BeginLaws.{begin_asks, begun}
 use Rattle.board.proofs.begin.begin.Goals as goal
 
-pub build_index-requires : goal.build_index-requires
-build_index-requires c =
-    c.requires.index
-
 pub first_board-requires : goal.first_board-requires
 first_board-requires c =
     let start = c.before.before.before in

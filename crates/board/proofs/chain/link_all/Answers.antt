@@ -13,7 +13,7 @@ use Rattle.rules.proofs.ClauseLaws.{clauses_le}
 use Rattle.formula.proofs.SignedLaws.{of_z_inj}
 use Rattle.rules.specs.Meaning.{LitUpTo}
 use Rattle.rules.specs.Numbers.{max_vars}
-use Rattle.board.proofs.LinkLaws.{linking_start, linking_zero, linking_literal, linking_skip, linking_done, link_asks, literal_up_to}
+use Rattle.board.proofs.LinkLaws.{linking_start, linking_zero, linking_literal, link_asks, literal_up_to}
 use Rattle.board.proofs.LinkLaws.{zero_pos}
 use Rattle.board.specs.Holders.{code_of}
 use Rattle.board.proofs.chain.link_all.Goals as goal
@@ -21,14 +21,6 @@ use Rattle.board.proofs.chain.link_all.Goals as goal
 pub loop-e-init : goal.loop-e-init
 loop-e-init c =
     linking_start c.requires
-
-pub offset_bounds-entries-e : goal.offset_bounds-entries-e
-offset_bounds-entries-e c =
-    omega (arith, c.loop-e.invariant.within)
-
-pub bounds-entries-e : goal.bounds-entries-e
-bounds-entries-e c =
-    omega (arith, c.loop-e.invariant.within)
 
 pub overflow_sub-c : goal.overflow_sub-c
 overflow_sub-c c =
@@ -98,19 +90,3 @@ loop-e-preserved-then-c-count c =
     linking_literal c.requires c.loop-e-test.true
     c.loop-e.invariant not_zero c.if-c-count.true
     (rw code_is at c.link-m.ensures.done) c.link-m.ensures.same.heads c.link-m.ensures.same.nexts c.link-m.ensures.same.owners
-
-pub loop-e-preserved : goal.loop-e-preserved
-loop-e-preserved c =
-    let not_zero : get_or c.args.entries.now
-    (c.loop-e.e - 1) (pos 0) ≢ pos 0 =
-    λ e. c.if-entry-eq0.false (ap (of_z w32) e) in
-    linking_skip c.requires c.loop-e-test.true
-    c.loop-e.invariant not_zero c.if-c-count.false
-
-pub returns : goal.returns
-returns c =
-    let w = c.loop-e.invariant in
-    record {
-      done = linking_done c.requires c.loop-e-test.false w;
-      same = record { heads = w.same_heads; nexts = w.same_nexts; owners = w.same_owners };
-    }

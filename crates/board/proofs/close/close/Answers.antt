@@ -1,21 +1,7 @@
 -- `board::close::close` meets its contract. Assumes nothing.
-use native.Mathlib.Omega.{arith}
-use Rattle.board.proofs.CloseLaws.{closings_start, closings_asks, closings_few, closings_false, closings_still, closings_falls, closings_again}
+use Rattle.board.proofs.CloseLaws.{closings_false, closings_still, closings_falls, closings_again}
 use Rattle.board.proofs.CloseLaws.{closings_kept as kept}
 use Rattle.board.proofs.close.close.Goals as goal
-
-pub loop-set-init : goal.loop-set-init
-loop-set-init c =
-    closings_start c.requires
-
-pub overflow_add-rounds : goal.overflow_add-rounds
-overflow_add-rounds c =
-    omega (arith, closings_few c.requires c.loop-set.invariant)
-
-pub round-requires : goal.round-requires
-round-requires c =
-    closings_asks c.requires
-    c.loop-set.invariant
 
 pub returns-in_default : goal.returns-in_default
 returns-in_default c =

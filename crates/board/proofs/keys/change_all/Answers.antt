@@ -1,15 +1,7 @@
 -- `board::keys::change_all` meets its contract. Assumes nothing.
 use native.Mathlib.Omega.{arith}
-use Rattle.board.proofs.HolderLaws.{walking_start, walking_now, walking_step, walking_done}
+use Rattle.board.proofs.HolderLaws.{walking_now, walking_step}
 use Rattle.board.proofs.keys.change_all.Goals as goal
-
-pub loop-clause-init : goal.loop-clause-init
-loop-clause-init c =
-    walking_start c.requires.hot_right c.requires.can
-
-pub offset_bounds-keys-i : goal.offset_bounds-keys-i
-offset_bounds-keys-i c =
-    omega (arith, (walking_now c.loop-clause-test.true c.loop-clause.invariant).at_key)
 
 pub bounds-keys-i : goal.bounds-keys-i
 bounds-keys-i c =
@@ -33,8 +25,3 @@ pub loop-clause-preserved : goal.loop-clause-preserved
 loop-clause-preserved c =
     walking_step c.loop-clause-test.true c.loop-clause.invariant
     c.put_key.auto.hot c.put_key.ensures.0 c.put_key.ensures.1
-
-pub returns : goal.returns
-returns c =
-    let inv = c.loop-clause.invariant in
-    record { keys_are = walking_done c.loop-clause-test.false inv; hot_right = inv.hot_right }

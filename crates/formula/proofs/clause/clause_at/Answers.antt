@@ -11,11 +11,6 @@ pub overflow_sub-to : goal.overflow_sub-to
 overflow_sub-to c =
     omega (arith, (looked_part c.requires c.if-k-starts.true).spans)
 
-pub offset_bounds-entries-from : goal.offset_bounds-entries-from
-offset_bounds-entries-from c =
-    let here = looked_part c.requires c.if-k-starts.true in
-    omega (arith, here.spans, here.within, c.well_formed.0)
-
 pub slice_bounds-result-count : goal.slice_bounds-result-count
 slice_bounds-result-count c =
     omega (arith, (looked_part c.requires c.if-k-starts.true).spans)

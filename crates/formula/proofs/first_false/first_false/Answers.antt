@@ -5,12 +5,8 @@ use lib.ListN.{length}
 use Rattle.rules.specs.Meaning.{has_true}
 use Rattle.formula.specs.Formula.{first_false_of}
 use Rattle.formula.proofs.ClauseLaws.{length_starts, Numbered, numbered}
-use Rattle.formula.proofs.FalseLaws.{looked_start, looked_next, looked_found, looked_done}
+use Rattle.formula.proofs.FalseLaws.{looked_next, looked_found, looked_done}
 use Rattle.formula.proofs.first_false.first_false.Goals as goal
-
-pub loop-k-init : goal.loop-k-init
-loop-k-init c =
-    looked_start _ _
 
 pub has_true-requires : goal.has_true-requires
 has_true-requires c =

@@ -1,16 +1,12 @@
 -- The goals of the cycle of calls {go_on, try_value} over the board. Each way out is a law of OnBoardLaws. Assumes nothing.
-use mathlib.Core.Path.{refl, sym, ◌∙◌}
+use mathlib.Core.Path.{sym, ◌∙◌}
 use native.Mathlib.Omega.{arith}
 use Rattle.search.proofs.CallLaws.{choice_none}
-use Rattle.search.proofs.OnBoardLaws.{first, turns_less, back_asks, went_clash, closed_few, closed_below, went_model}
+use Rattle.search.proofs.OnBoardLaws.{back_asks, went_clash, closed_few, closed_below, went_model}
 use Rattle.search.proofs.OnBoardLaws.{turn_begins, turn_falls, turn_asks, turn_again, turn_went}
-use Rattle.search.proofs.OnBoardLaws.{tried_stopped, literal_asks, set_falls, go_over, try_asks, tried_back}
-use Rattle.search.proofs.BoardLaws.{same_self, same_then}
+use Rattle.search.proofs.OnBoardLaws.{try_asks, tried_back}
+use Rattle.search.proofs.BoardLaws.{same_then}
 use Rattle.search.proofs.call.+go_on_try_value.Goals as goal
-
-pub go_on-close-requires : goal.go_on-close-requires
-go_on-close-requires t c =
-    c.requires.board
 
 pub go_on-take_back-requires : goal.go_on-take_back-requires
 go_on-take_back-requires t c =
@@ -37,10 +33,6 @@ go_on-returns-in_default-lowest_from t c =
       same = c.close.ensures.same;
     }
 
-pub go_on-loop-value-init : goal.go_on-loop-value-init
-go_on-loop-value-init t c =
-    (first refl refl refl refl refl refl, same_self)
-
 pub go_on-try_value-end-requires : goal.go_on-try_value-end-requires
 go_on-try_value-end-requires t c = (
   omega (
@@ -52,10 +44,6 @@ go_on-try_value-end-requires t c = (
   turn_begins c.args.meter c.requires c.close.ensures.done c.in_default.is c.in-Some.v
       (sym c.lowest_from.ensures ∙ c.in-Some.is) c.loop-value.invariant.0,
 )
-
-pub go_on-loop-value-smaller : goal.go_on-loop-value-smaller
-go_on-loop-value-smaller t c =
-    turns_less c.try_value-end.result.outcome c.loop-value.value (sym c.goes_again.ensures ∙ c.if-goes_again.true)
 
 pub go_on-loop-value-preserved : goal.go_on-loop-value-preserved
 go_on-loop-value-preserved t c = (
@@ -81,29 +69,6 @@ go_on-returns-else-goes_again t c =
           same_then c.close.ensures.same
           (same_then c.loop-value.invariant.1 (same_then c.try_value-end.ensures.same c.take_back-else-goes_again.ensures.same));
     }
-
-pub try_value-returns-in_default : goal.try_value-returns-in_default
-try_value-returns-in_default t c =
-    record {
-      done =
-          tried_stopped c.args.meter c.args.value c.requires (sym c.ask_try.ensures ∙ c.in_default.is);
-      same = same_self;
-    }
-
-pub try_value-literal_of-requires : goal.try_value-literal_of-requires
-try_value-literal_of-requires t c =
-    (c.requires.variable.some, omega (arith, c.requires.variable.most, c.requires.board.shows.small.vars_fit))
-
-pub try_value-set_literal-requires : goal.try_value-set_literal-requires
-try_value-set_literal-requires t c =
-    rw c.literal_of.ensures (literal_asks c.args.meter c.args.value c.requires)
-
-pub try_value-go_on-end-requires : goal.try_value-go_on-end-requires
-try_value-go_on-end-requires t c =
-    let done = rw c.literal_of.ensures at c.set_literal.ensures.done in (
-      omega (arith, c.decreases, set_falls c.args.meter c.args.value c.requires done),
-      go_over c.args.meter c.args.value c.requires done,
-    )
 
 pub try_value-take_back-requires : goal.try_value-take_back-requires
 try_value-take_back-requires t c =

@@ -17,11 +17,3 @@ slice_bounds-keys-end c =
 pub slice_bounds-board-end-2 : goal.slice_bounds-board-end-2
 slice_bounds-board-end-2 c =
     sym (length-take-le _ _ (omega (arith, length_starts c.requires.call.formula, c.requires.call.formula.clauses_most)))
-
-pub call_in-requires : goal.call_in-requires
-call_in-requires c =
-    record { from = c.requires; kept = c.begin_in.ensures.kept }
-
-pub returns : goal.returns
-returns c =
-    c.call_in.ensures.done.calls

@@ -4,7 +4,7 @@ use native.Mathlib.Omega.{arith}
 use lib.Seq.{length-take-le}
 use Rattle.formula.proofs.ClauseLaws.{length_starts}
 use Rattle.board.proofs.ConstraintLaws.{blank_at}
-use Rattle.search.proofs.WholeLaws.{close_goes, close_length, close_ends}
+use Rattle.search.proofs.WholeLaws.{close_goes, close_ends}
 use Rattle.search.proofs.whole.whole_close.Goals as goal
 
 pub begin_in-requires : goal.begin_in-requires
@@ -22,10 +22,6 @@ slice_bounds-board-end-2 c =
 pub close-closing-requires : goal.close-closing-requires
 close-closing-requires c =
     close_goes c.requires c.begin_in.ensures.begun
-
-pub copy_values-requires : goal.copy_values-requires
-copy_values-requires c =
-    sym (close_length c.requires c.begin_in.ensures.begun _ c.close-closing.ensures.same.values)
 
 pub returns : goal.returns
 returns c =
