@@ -59,8 +59,7 @@ fn put_answer(text: &mut [u8], entries: &[i32], report: Report, status: &[u8]) -
         text.old result text.new }
 {
     let answer = report.answer;
-    let number = rules::numbers::run_number(answer);
-    if number == 20 {
+    if let RunAnswer::NoModel = answer {
         return put_empty(text, status.len() as u32);
     }
     put_settled(text, entries, report.forced, status)
