@@ -13,10 +13,7 @@ pub fn is_no_literal(literal: Lit, vars: u32) -> bool
     ensures { result ≡ is_no_literal vars literal.0 }
 {
     let v = var_of(literal);
-    if v.0 == 0 {
-        return true;
-    }
-    vars < v.0
+    v.0 == 0 || vars < v.0
 }
 
 // The index of the first held literal that is none, if there is one.

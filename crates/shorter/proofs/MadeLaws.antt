@@ -1,7 +1,7 @@
 -- The laws of specs/Made: what the run leaves is what its text is put from, and the text that is put is the one promised.
 --
 --   settled_text, settled_ready   the text after 0 and 21, from the forced literals as values
---   none_by, some_by  the answer by its number
+--   empty_text, folded_text_lem, settled_over     the text by the answer
 --   lent_runs         the run that is made, by the buffers that are lent
 --   status_room, over, done   what the run leaves, and what is returned and written then
 --   lent              the buffers of the run that is made
@@ -21,7 +21,7 @@ use lib.ListN.{length, take, replicate, length-replicate, take-append-drop}
 use Rattle.rules.specs.declared.Refusal.{Refusal}
 use Rattle.rules.specs.declared.RunAnswer.{RunAnswer}
 use Rattle.rules.specs.declared.Report.{Report}
-use Rattle.rules.specs.Numbers.{max_text, max_vars, run_number}
+use Rattle.rules.specs.Numbers.{max_text, max_vars}
 use Rattle.rules.specs.Meaning.{clauses}
 use Rattle.texts.specs.Plain.{plain}
 use Rattle.rules.specs.Run.{Task, forced_values, run}
@@ -69,32 +69,17 @@ module _ {es : List ℤ} {forced : ℕ} {ss text : List ℕ} (w : SettledOver es
         room = room_same (sym settled_text) w.room;
       }
 
--- ---- by the number of the answer
-
-pub none_by : (a : RunAnswer) → run_number a ≡ 20 → a ≡ RunAnswer.NoModel
-none_by RunAnswer.Settled h = absurd (omega arith)
-none_by RunAnswer.NoModel h = refl
-none_by RunAnswer.Stopped h = absurd (omega arith)
-none_by (RunAnswer.Refused Refusal.ShortBuffer) h = absurd (omega arith)
-none_by (RunAnswer.Refused Refusal.BadLimits) h = absurd (omega arith)
-none_by (RunAnswer.Refused (Refusal.BadList at)) h = absurd (omega arith)
-none_by (RunAnswer.Refused (Refusal.EntryOverVars at)) h = absurd (omega arith)
-none_by (RunAnswer.Refused (Refusal.BadLiteral at)) h = absurd (omega arith)
-none_by (RunAnswer.Refused Refusal.NotFree) h = absurd (omega arith)
-none_by (RunAnswer.Refused Refusal.ManyHeld) h = absurd (omega arith)
-
-pub some_by : (a : RunAnswer) → run_number a ≢ 20 → a ≢ RunAnswer.NoModel
-some_by a h e = h (ap run_number e)
+-- ---- by the answer
 
 module _ {es : List ℤ} {r : Report} {ss text : List ℕ} (w : AnswerOver es r ss text) where
-  pub empty_text : run_number r.answer ≡ 20 → plain (length ss) (shorter_by r.answer ss (clauses es)) ≡ plain (length ss) ([] ∷ [])
-  empty_text h = ap (λ (a : RunAnswer). plain (length ss) (shorter_by a ss (clauses es))) (none_by r.answer h)
+  pub empty_text : r.answer ≡ RunAnswer.NoModel → plain (length ss) (shorter_by r.answer ss (clauses es)) ≡ plain (length ss) ([] ∷ [])
+  empty_text h = ap (λ (a : RunAnswer). plain (length ss) (shorter_by a ss (clauses es))) h
 
-  pub folded_text_lem : run_number r.answer ≢ 20
+  pub folded_text_lem : r.answer ≢ RunAnswer.NoModel
       → plain (length ss) (shorter_by r.answer ss (clauses es)) ≡ plain (length ss) (folded ss (clauses es))
-  folded_text_lem h = ap (plain (length ss)) (w.ran (some_by r.answer h))
+  folded_text_lem h = ap (plain (length ss)) (w.ran h)
 
-  pub settled_over : run_number r.answer ≢ 20 → SettledOver es r.forced ss text
+  pub settled_over : r.answer ≢ RunAnswer.NoModel → SettledOver es r.forced ss text
   settled_over h =
       record {
         formula = w.formula;

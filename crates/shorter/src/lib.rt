@@ -11,7 +11,6 @@ ghost use Rattle.texts.specs.Shorter.{folded, shorter_by, shorter_given, shorter
 ghost use Rattle.buffers.specs.Put.{Put};
 ghost use Rattle.shorter.specs.Made.{SettledOver, RoomOver, ValuesPut, AnswerOver, Lent, RunPut};
 
-use rules::numbers::Answer;
 use folded::{put_empty, put_folded};
 use formula::starts::find_starts;
 use rules::{Report, RunAnswer, ShorterReport};
@@ -60,8 +59,7 @@ fn put_answer(text: &mut [u8], entries: &[i32], report: Report, status: &[u8]) -
         text.old result text.new }
 {
     let answer = report.answer;
-    let number = answer.number();
-    if number == 20 {
+    if let RunAnswer::NoModel = answer {
         return put_empty(text, status.len() as u32);
     }
     put_settled(text, entries, report.forced, status)

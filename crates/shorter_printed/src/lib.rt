@@ -33,6 +33,8 @@ fn put_text(out: &mut [u8], text: &[u8], entries: &mut [i32]) -> usize
 // Puts the shorter file of a text at the start of a buffer and returns how many bytes it has. None is longer than 32,768 bytes; in a
 // shorter buffer nothing is written, and 0 is returned.
 // Rules out: a run under another budget; a file in a buffer of 32,767 bytes.
+// Stays beside its kin of the other printing crates: one function of what is put would take that one's contract as its parameter, longer
+// than these lines.
 #[tactic(auto, using(crate::proofs::TextLaws::prints_short))]
 pub fn print(text: &[u8], out: &mut [u8]) -> usize
     ensures { PrintsShorter text.now out.old result out.new }

@@ -1,6 +1,4 @@
 -- `put_run` meets its contract: what the run leaves is what its text is put from. Assumes nothing.
-use mathlib.Core.Path.{sym}
-use lib.Seq.{length-take-le}
 use Rattle.rules.specs.Answer.{Buffers, buffers, Runs}
 use Rattle.rules.specs.RunRefusals.{Accepted}
 use Rattle.texts.specs.Shorter.{ShorterGiven, shorter_given, shorter_run}
@@ -19,19 +17,6 @@ slice_bounds-put_answer-end c =
     let runs : Runs (shorter_run the_given) c.run-report.result left =
     lent_runs the_given c.requires c.run-report.ensures in
     status_room the_given accepted runs
-
-pub slice_bounds-put_answer-end-2 : goal.slice_bounds-put_answer-end-2
-slice_bounds-put_answer-end-2 c =
-    let the_given : ShorterGiven =
-    let a = c.args in
-    shorter_given a.entries.now a.vars a.budget a.chunk_limit a.text.now in
-    let left : Buffers =
-    let l = c.run-report.new in buffers l.status l.calls l.ways l.hints l.log in
-    let accepted : Accepted (shorter_run the_given) =
-    c.requires.accepted in
-    let runs : Runs (shorter_run the_given) c.run-report.result left =
-    lent_runs the_given c.requires c.run-report.ensures in
-    sym (length-take-le _ _ (status_room the_given accepted runs))
 
 pub put_answer-length-requires : goal.put_answer-length-requires
 put_answer-length-requires c =

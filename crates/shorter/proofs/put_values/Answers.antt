@@ -1,19 +1,11 @@
 -- `put_values` meets its contract: the forced literals are values, the starts are found, and the text is put from them. Assumes nothing.
-use mathlib.Core.Path.{sym, ◌∙◌, ap}
-use native.Mathlib.Omega.{arith}
-use lib.Seq.{length-take-le}
+use mathlib.Core.Path.{◌∙◌, ap}
 use Rattle.rules.specs.Meaning.{Values, clauses}
 use Rattle.formula.proofs.StartsLaws.{found_front}
 use Rattle.buffers.proofs.PutLaws.{put_same}
 use Rattle.folded.specs.Folded.{folded_text}
 use Rattle.shorter.proofs.MadeLaws.{settled_text, settled_ready}
 use Rattle.shorter.proofs.put_values.Goals as goal
-
-pub slice_bounds-put_folded-end-2 : goal.slice_bounds-put_folded-end-2
-slice_bounds-put_folded-end-2 c =
-    sym
-    (length-take-le _ _
-    (omega (arith, c.find_starts-count.ensures.count_is, c.requires.1.starts_fit, c.find_starts-count.auto.starts)))
 
 pub put_folded-requires : goal.put_folded-requires
 put_folded-requires c =
