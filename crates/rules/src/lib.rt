@@ -103,6 +103,7 @@ pub struct Record {
 }
 
 // The answer of a reading, with its place where that is not fixed. Its number and place are read_number and read_place.
+// Stays one enum and no Result: `reader_agrees`, `reader_refuses` and `Reads` speak of acceptance and refusals alike, and so do its numbers.
 #[derive(Clone, Copy)]
 pub enum ReadAnswer {
     Accepted,
@@ -127,6 +128,7 @@ pub struct Reading {
 }
 
 // The answer of a reading of groups, with its place where that is not fixed. Its number and place are groups_number and groups_place.
+// Stays one enum and no Result: `groups_agree`, `groups_refusals` and `ReadsGroups` speak of acceptance and refusals alike, and so do its numbers.
 #[derive(Clone, Copy)]
 pub enum GroupsAnswer {
     Accepted,
@@ -165,6 +167,7 @@ pub enum Refusal {
 }
 
 // The answer of a run. Its number and place are run_number and run_place.
+// Stays one enum and no Result: `run_refusals`, `no_model_exactly` and `Runs` speak of its four ends alike, and so do its numbers.
 #[derive(Clone, Copy)]
 pub enum RunAnswer {
     Settled,
@@ -184,6 +187,7 @@ pub struct Report {
 }
 
 // The answer to the question why a literal is forced. Its number and place are why_number and why_place.
+// Stays one enum and no Result: `why_refused`, `why_no_model` and `Explains` speak of its five ends alike, and so do its numbers.
 #[derive(Clone, Copy)]
 pub enum WhyAnswer {
     // A set of clauses that alone forces the literal is marked.
@@ -204,6 +208,7 @@ pub struct WhyReport {
 }
 
 // The answer of a closing. Its number and place are close_number and close_place.
+// Stays one enum and no Result: `close_refusals`, `close_clash` and `Closes` speak of its three ends alike, and so do its numbers.
 #[derive(Clone, Copy)]
 pub enum CloseAnswer {
     // The closed set is written.
@@ -229,6 +234,7 @@ pub struct ShorterReport {
 }
 
 // The answer to a file of claims. Its number and place are claims_number and claims_place.
+// Stays one enum and no Result: `claims_accepted`, `claims_refusals` and `Checks` speak of acceptance and refusals alike, and so do its numbers.
 #[derive(Clone, Copy)]
 pub enum ClaimsAnswer {
     // The model is one, and so many claims hold.
