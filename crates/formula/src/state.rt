@@ -21,7 +21,7 @@ pub fn has_true(clause: &[i32], values: &[u8]) -> bool
 // What a clause is: true with a true literal; with none, its distinct unset literals decide: none, it is false; exactly one, a unit;
 // two, undecided.
 // Rules out: a unit for "1 -1 0"; undecided for "1 1 0".
-// Required of: search::close::round, by clause_at_up_to.
+// Required of: whoever asks what a clause is; no one in these crates does any more.
 pub fn state_of(clause: &[i32], values: &[u8]) -> ClauseState
     requires { ClauseUpTo (length values.now) clause.now }
     ensures { result ≡ state_of values.now clause.now }
