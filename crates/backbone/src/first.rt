@@ -7,7 +7,6 @@ ghost use Rattle.backbone.specs.First.{FirstCalled, started, FirstFound, CallsBe
 ghost use Rattle.backbone.specs.First.{HintsBegin, HintsDone, ListTaken};
 
 use board::parts::Board;
-use buffers::clear::{clear_bytes, clear_numbers};
 use buffers::copy::copy_first;
 use calls::after::{Made, Tally, after_model, row_only};
 use calls::next::{Limits, run_calls};
@@ -29,7 +28,7 @@ pub fn first_call(entries: &[i32], starts: &[u16], values: &mut [u8], budget: u3
     requires { Formula (length values.old) entries.now starts.now }
     ensures { FirstCalled entries.now (length values.old) budget result values.new }
 {
-    clear_bytes(values);
+    values.fill(0);
     let total = (starts.len() - 1) as u32;
     whole_call(
         entries,
@@ -58,7 +57,7 @@ fn first_in<'a>(
         × BoardKept (length values.old) entries.now room.new.lists.now room.new.holders.now room.new.marks.now
         room.new.board.values.now room.new.board.keys.now room.new.board.hot.now room.new.board.trail.now }
 {
-    clear_bytes(values);
+    values.fill(0);
     let total = (starts.len() - 1) as u32;
     let view = View {
         entries,
@@ -257,11 +256,11 @@ pub fn accepted_run(
     ensures { HintsDone entries.now (length status.old) limits
         result first.new status.new calls.new ways.new hints.new log.new }
 {
-    clear_bytes(first);
-    clear_bytes(status);
-    clear_numbers(calls);
-    clear_bytes(ways);
-    clear_numbers(log);
+    first.fill(0);
+    status.fill(0);
+    calls.fill(0);
+    ways.fill(0);
+    log.fill(0);
     let mut starts = [0u16; rules::MAX_STARTS];
     let count = find_starts(entries, &mut starts);
     with_hints(

@@ -6,7 +6,6 @@ ghost use Rattle.board.specs.Chains.{SameChains};
 use crate::chain::{Chains, build_index};
 use crate::first::first_board;
 use crate::parts::Index;
-use buffers::clear::clear_bytes;
 
 // Makes the index of the entry list's `count` clauses, and the board that shows no value. The heads and the hot blocks are blank before.
 // Rules out: marks that an older run has left; a board of another list.
@@ -32,7 +31,7 @@ pub fn begin(
 {
     let vars = values.len();
     build_index(entries, chains, lists, holders, vars, count);
-    clear_bytes(marks);
+    marks.fill(0);
     let index = Index {
         lists,
         holders,

@@ -7,7 +7,6 @@ ghost use Rattle.board.specs.Constraints.{MarkAsked, MarkDone, MarksAsked, Marks
 use crate::code::code_of;
 use crate::keys::put_key;
 use crate::parts::Board;
-use buffers::clear::clear_bytes;
 use formula::value::{is_true, is_unset};
 use rules::Lit;
 
@@ -58,7 +57,7 @@ pub fn renew(constraint: &[i32], marks: &mut [u8], board: &mut Board)
     ensures trail { board.new.trail.now ≡ board.old.trail.now }
     ensures same { SameRoom board.old board.new }
 {
-    clear_bytes(marks);
+    marks.fill(0);
     let key = mark_all(constraint, board, marks);
     let last = board.keys.len() - 1;
     put_key(board.keys, board.hot, last, key);

@@ -5,7 +5,6 @@ ghost use Rattle.board.specs.Firsts.{Blocks, CountAsked, Counted, FirstAsked, Fi
 
 use crate::keys::change_at;
 use crate::parts::Index;
-use buffers::clear::{clear_bytes, clear_numbers};
 
 // The hot blocks of `count` clauses with key 0, all of which are hot.
 // Rules out: a block that counts none; the last block counted full.
@@ -47,8 +46,8 @@ pub fn first_board(
         values.old keys.old
         values.new keys.new hot.new trail.new }
 {
-    clear_bytes(values);
-    clear_numbers(keys);
+    values.fill(0);
+    keys.fill(0);
     all_hot(hot, keys.len());
     count_all(index, keys, hot, values.len());
     trail[0] = 0;

@@ -9,7 +9,6 @@ ghost use Rattle.setup.specs.Called.{SetupTaken};
 ghost use Rattle.closing.specs.Ended.{Told, CloseDone};
 
 use board::close::Closing;
-use buffers::clear::clear_bytes;
 use buffers::count::count_set;
 use formula::starts::find_starts;
 use rules::{CloseAnswer, CloseReport};
@@ -24,7 +23,7 @@ fn tell(end: Closing, values: &mut [u8]) -> CloseReport
 {
     match end {
         Closing::Clash(rounds) => {
-            clear_bytes(values);
+            values.fill(0);
             CloseReport {
                 answer: CloseAnswer::Clash,
                 rounds: rounds,

@@ -24,19 +24,3 @@ impl<'a> View<'a> {
         clause_at(self.entries, self.starts, self.constraint, n)
     }
 }
-
-// Clause n of an entry list, from 1; after the last one the constraint.
-// Rules out: the constraint for a clause of the formula; the first clause for every n.
-// Required of: board::flip::is_false_at, which counts from 1 to the last clause.
-pub fn clause_in<'a, 'b>(
-    entries: &'a [i32],
-    vars: usize,
-    starts: &'b [u16],
-    constraint: &'a [i32],
-    n: ClauseNo,
-) -> &'a [i32]
-    requires { Lookup entries.now starts.now n.0 }
-    ensures { result.now ≡ clause_at entries.now constraint.now n.0 }
-{
-    clause_at(entries, starts, constraint, n)
-}

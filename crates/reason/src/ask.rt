@@ -8,7 +8,6 @@ use crate::call::{Asking, blank_call, marked_call};
 use crate::marks::mark_first;
 use crate::visit::visit_all;
 use buffers::bits::write_bits;
-use buffers::clear::clear_bytes;
 use formula::starts::find_starts;
 use rules::{Lit, Outcome, WhyAnswer, WhyReport};
 use search::meter::Meter;
@@ -37,7 +36,7 @@ fn second_call(
     let after = end.meter;
     match outcome {
         Outcome::Model => {
-            clear_bytes(marks);
+            marks.fill(0);
             write_bits(values);
             WhyReport {
                 answer: WhyAnswer::NotForced,
@@ -54,7 +53,7 @@ fn second_call(
             visit_all(entries, next, kept, starts, marks, values)
         }
         Outcome::Stopped => {
-            clear_bytes(marks);
+            marks.fill(0);
             WhyReport {
                 answer: WhyAnswer::Stopped,
                 calls: 2,
@@ -80,7 +79,7 @@ fn ask(
     ensures { EndsAs (why (question entries.now (length values.old) budget literal.0))
         result marks.new values.new }
 {
-    clear_bytes(marks);
+    marks.fill(0);
     let count = find_starts(entries, starts);
     let end = blank_call(
         entries,

@@ -7,7 +7,6 @@ ghost use Rattle.search.specs.Calls.{CallOver};
 ghost use Rattle.reason.specs.Asks.{Asked, MarkedOver, BlankCalled, FalseCalled};
 
 use crate::kept::put_marked;
-use buffers::clear::clear_bytes;
 use formula::lit::negated;
 use formula::starts::find_starts;
 use rules::Lit;
@@ -38,7 +37,7 @@ pub fn blank_call<'a>(
     ensures { BlankCalled (call_clauses entries.now constraint.now total) (length values.old) meter
         result values.new }
 {
-    clear_bytes(values);
+    values.fill(0);
     whole_call(entries, starts, constraint, total, values, meter)
 }
 

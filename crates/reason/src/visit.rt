@@ -5,7 +5,6 @@ ghost use Rattle.rules.specs.Why.{visits};
 ghost use Rattle.reason.specs.Asks.{Asked, EndsAs, MarkedBelow, VisitDone, question};
 
 use crate::call::{Asking, marked_call};
-use buffers::clear::clear_bytes;
 use rules::{Outcome, WhyAnswer, WhyReport};
 use search::call::CallEnd;
 
@@ -66,7 +65,7 @@ pub fn visit_all(
         left = end.meter;
         let outcome = end.outcome;
         if let Outcome::Stopped = outcome {
-            clear_bytes(marks);
+            marks.fill(0);
             return WhyReport {
                 answer: WhyAnswer::Stopped,
                 calls: calls,
@@ -74,7 +73,7 @@ pub fn visit_all(
             };
         }
     }
-    clear_bytes(values);
+    values.fill(0);
     WhyReport {
         answer: WhyAnswer::Kept,
         calls: calls,

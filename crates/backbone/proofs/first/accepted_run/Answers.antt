@@ -13,34 +13,34 @@ slice_bounds-with_hints-end c =
 
 pub with_hints-requires : goal.with_hints-requires
 with_hints-requires c =
-    let len = c.clear_bytes-2.auto.bytes in
+    let len = c.fill-2.auto.self in
     let first_len = c.requires.first_len ∙ sym len in
     record {
       begins =
           record {
             formula = rw len (found_formula c.requires.formula c.find_starts-count.ensures);
-            first_len = c.clear_bytes.auto.bytes ∙ first_len;
+            first_len = c.fill.auto.self ∙ first_len;
             cleared =
                 cleared c.args.status.now c.args.calls.now c.args.ways.now c.args.log.now c.requires.lent c.requires.log_len len
-                c.clear_bytes-2.ensures c.clear_numbers.ensures c.clear_bytes-3.ensures c.clear_numbers-2.ensures;
+                (c.fill-2.ensures.after (λ y e. e)) (c.fill-3.ensures.after (λ y e. e)) (c.fill-4.ensures.after (λ y e. e)) (c.fill-5.ensures.after (λ y e. e));
             allowed = c.requires.allowed;
           };
-      blank_first = c.clear_bytes.ensures ∙ ap (λ (n : ℕ). replicate n 0) first_len;
+      blank_first = (c.fill.ensures.after (λ y e. e)) ∙ ap (λ (n : ℕ). replicate n 0) first_len;
       hints_len = c.requires.hints_len ∙ sym len;
     }
 
 pub shape_of-first : goal.shape_of-first
 shape_of-first c =
-    c.with_hints.auto.first ∙ c.clear_bytes.auto.bytes
+    c.with_hints.auto.first ∙ c.fill.auto.self
 
 pub shape_of-status : goal.shape_of-status
 shape_of-status c =
-    c.with_hints.auto.status ∙ c.clear_bytes-2.auto.bytes
+    c.with_hints.auto.status ∙ c.fill-2.auto.self
 
 pub shape_of-calls : goal.shape_of-calls
 shape_of-calls c =
-    c.with_hints.auto.calls ∙ c.clear_numbers.auto.numbers
+    c.with_hints.auto.calls ∙ c.fill-3.auto.self
 
 pub returns : goal.returns
 returns c =
-    rw c.clear_bytes-2.auto.bytes at c.with_hints.ensures
+    rw c.fill-2.auto.self at c.with_hints.ensures

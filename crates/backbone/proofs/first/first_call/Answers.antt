@@ -18,8 +18,8 @@ overflow_cast-total c =
 
 pub whole_call-requires : goal.whole_call-requires
 whole_call-requires c =
-    call_blank (length c.args.values.now) c.clear_bytes.ensures (first_over c.requires c.clear_bytes.auto.bytes)
+    call_blank (length c.args.values.now) (c.fill.ensures.after (λ y e. e)) (first_over c.requires c.fill.auto.self)
 
 pub returns : goal.returns
 returns c =
-    ends_same 0 (formula_clauses c.requires) c.clear_bytes.ensures c.whole_call.ensures
+    ends_same 0 (formula_clauses c.requires) (c.fill.ensures.after (λ y e. e)) c.whole_call.ensures

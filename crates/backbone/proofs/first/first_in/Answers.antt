@@ -20,12 +20,12 @@ overflow_cast-total c =
 pub call_in-requires : goal.call_in-requires
 call_in-requires c =
     record {
-      from = call_blank (length c.args.values.now) c.clear_bytes.ensures (first_over c.requires.0 c.clear_bytes.auto.bytes);
-      kept = kept_len (sym c.clear_bytes.auto.bytes) c.requires.1;
+      from = call_blank (length c.args.values.now) (c.fill.ensures.after (λ y e. e)) (first_over c.requires.0 c.fill.auto.self);
+      kept = kept_len (sym c.fill.auto.self) c.requires.1;
     }
 
 pub returns : goal.returns
 returns c = (
-  ends_same 0 (formula_clauses c.requires.0) c.clear_bytes.ensures c.call_in.ensures.done.calls,
-  kept_len c.clear_bytes.auto.bytes c.call_in.ensures.done.kept,
+  ends_same 0 (formula_clauses c.requires.0) (c.fill.ensures.after (λ y e. e)) c.call_in.ensures.done.calls,
+  kept_len c.fill.auto.self c.call_in.ensures.done.kept,
 )

@@ -5,11 +5,11 @@ use Rattle.board.proofs.begin.begin.Goals as goal
 pub first_board-requires : goal.first_board-requires
 first_board-requires c =
     let start = c.before.before.before in
-    begin_asks start.requires c.build_index.ensures.done c.clear_bytes.ensures
+    begin_asks start.requires c.build_index.ensures.done (c.fill.ensures.after (λ y e. e))
 
 pub returns : goal.returns
 returns c =
     record {
-      done = begun c.requires c.build_index.ensures.done c.clear_bytes.ensures c.first_board.ensures;
+      done = begun c.requires c.build_index.ensures.done (c.fill.ensures.after (λ y e. e)) c.first_board.ensures;
       same = c.build_index.ensures.same;
     }

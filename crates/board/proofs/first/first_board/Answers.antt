@@ -4,5 +4,5 @@ use Rattle.board.proofs.first.first_board.Goals as goal
 
 pub returns : goal.returns
 returns c =
-    first_done c.requires c.clear_bytes.ensures
-    c.clear_numbers.ensures c.count_all.ensures
+    first_done c.requires (c.fill.ensures.after (λ y e. e))
+    (c.fill-2.ensures.after (λ y e. e)) c.count_all.ensures

@@ -35,14 +35,14 @@ blank_call-end-requires c =
 
 pub second_call-requires : goal.second_call-requires
 second_call-requires c = (
-  asked_same c.requires c.blank_call-end.auto.values refl c.find_starts-count.auto.starts c.clear_bytes.auto.bytes,
+  asked_same c.requires c.blank_call-end.auto.values refl c.find_starts-count.auto.starts c.fill.auto.self,
   c.find_starts-count.ensures.count_is,
-  c.clear_bytes.ensures ∙ ap (λ (k : ℕ). replicate k 0) (sym c.clear_bytes.auto.bytes),
+  (c.fill.ensures.after (λ y e. e)) ∙ ap (λ (k : ℕ). replicate k 0) (sym c.fill.auto.self),
 )
 
 pub shape_of-marks-in-Model : goal.shape_of-marks-in-Model
 shape_of-marks-in-Model c =
-    c.second_call.auto.marks ∙ c.clear_bytes.auto.bytes
+    c.second_call.auto.marks ∙ c.fill.auto.self
 
 pub returns-in-Model : goal.returns-in-Model
 returns-in-Model c =
@@ -53,9 +53,9 @@ returns-in-Model c =
 pub returns-in-NoModel : goal.returns-in-NoModel
 returns-in-NoModel c =
     first_none c.requires c.find_starts-count.ensures c.blank_call-end.ensures c.in-NoModel.is
-    c.requires.asks.marks_are c.clear_bytes.ensures
+    c.requires.asks.marks_are (c.fill.ensures.after (λ y e. e))
 
 pub returns-in-Stopped : goal.returns-in-Stopped
 returns-in-Stopped c =
     first_stopped c.requires c.find_starts-count.ensures c.blank_call-end.ensures c.in-Stopped.is
-    c.requires.asks.marks_are c.clear_bytes.ensures
+    c.requires.asks.marks_are (c.fill.ensures.after (λ y e. e))

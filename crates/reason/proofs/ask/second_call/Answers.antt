@@ -15,7 +15,7 @@ returns-in-Model c =
     c.marked_call-end.ensures
     c.in-Model.is
     (c.mark_first.auto.marks ∙ c.requires.0.asks.marks_are)
-    c.clear_bytes.ensures c.write_bits.ensures
+    (c.fill.ensures.after (λ y e. e)) c.write_bits.ensures
 
 pub returns-in-NoModel : goal.returns-in-NoModel
 returns-in-NoModel c =
@@ -34,4 +34,4 @@ returns-in-Stopped c =
     second_marks c.args.asking.count p.2 p.0.asks.marks_are c.mark_first.ensures ∙ ap first_marks p.1 in
     second_stopped c.args.entries.now (length c.args.values.now) c.args.asking.literal.0 c.args.asking.meter all
     c.marked_call-end.ensures c.in-Stopped.is
-    (c.mark_first.auto.marks ∙ c.requires.0.asks.marks_are) c.clear_bytes-in-Stopped.ensures
+    (c.mark_first.auto.marks ∙ c.requires.0.asks.marks_are) (c.fill-in-Stopped.ensures.after (λ y e. e))

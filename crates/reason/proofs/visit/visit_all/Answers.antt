@@ -10,7 +10,7 @@ returns-in-Stopped c =
     rw (add-one c.loop-n.calls)
     (visiting_stop (visiting_at c.loop-n-test.true c.loop-n.invariant.4)
     (rw c.loop-n.invariant.3 at c.visit-end.ensures) c.in-Stopped.is
-    (c.visit-end.auto.marks ∙ c.loop-n.invariant.2 ∙ c.requires.0.asks.marks_are) c.clear_bytes.ensures)
+    (c.visit-end.auto.marks ∙ c.loop-n.invariant.2 ∙ c.requires.0.asks.marks_are) (c.fill.ensures.after (λ y e. e)))
 
 pub loop-n-preserved : goal.loop-n-preserved
 loop-n-preserved c = (
@@ -39,4 +39,4 @@ shape_of-marks c =
 pub returns : goal.returns
 returns c =
     let z : c.loop-n.n ≡ 0 = omega (arith, c.loop-n-test.false) in
-    visiting_done (rw z at c.loop-n.invariant.4) cc
+    (let zeros = c.fill-2.ensures.after (λ y e. e) in visiting_done (rw z at c.loop-n.invariant.4) (cc zeros))
