@@ -11,7 +11,7 @@ use rules::ClaimsAnswer;
 
 // One claim, where no variable is set: where its tree ends, or the answer.
 // Rules out: a tree checked under the claim itself; 0 as a claim.
-// Required of: check_claims_from, which requires it too.
+// Required of: check_all, which requires it too.
 fn check_claim(
     entries: &[i32],
     starts: &[u16],

@@ -9,6 +9,7 @@ use reader::token::Entry;
 use rules::ClaimsAnswer;
 
 // What is due: the model's count, which is V; a literal of a variable; the number of claims; a claim, whose variable is at most V.
+// Stays an enum and no closure: `Taken` says by it what is at fault, and a closure would have to promise the same.
 #[derive(Clone, Copy)]
 pub enum Due {
     Count(u32),

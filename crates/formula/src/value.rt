@@ -8,7 +8,7 @@ use rules::{Lit, Var};
 
 // The index of a variable's byte: its number less one.
 // Rules out: 3 for variable 3; 0 for every variable.
-// Required of: whoever has a literal or a variable of 1 to V: is_unset, is_true, set_value, unset_value, flip_test.
+// Required of: whoever has a literal or a variable of 1 to V: is_unset, is_true, board::literal::make_true, steps::flip::flip_test.
 pub fn index_of(v: Var) -> usize
     requires { 1 ≤ v.0 }
     ensures { result + 1 ≡ v.0 }

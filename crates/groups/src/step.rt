@@ -12,6 +12,7 @@ use rules::GroupsAnswer;
 
 // What is due: the number of groups; a size, with so many variables before it; the number of clauses; an entry, with the number of variables, of
 // clauses, and of those that are complete.
+// Stays an enum and no closure: `due_rules` says by it what is refused, and a closure would have to promise the same.
 #[derive(Clone, Copy)]
 pub enum Due {
     Groups,

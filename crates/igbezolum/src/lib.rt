@@ -43,6 +43,7 @@ pub struct IgbReport {
     pub free: u32,
 }
 
+// No From, as the other functions that give C its numbers: a place has to fit 32 bits, which is required of whoever calls.
 fn reading_numbers(reading: rules::Reading) -> IgbReading
     requires { ReadingFits reading }
     ensures { result ≡ reading_numbers reading }

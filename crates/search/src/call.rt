@@ -88,6 +88,7 @@ pub fn go_on(
     };
     let mut rest = meter;
     let mut value = false;
+    // Stays a `loop`: a `for` over both values would have an end behind it that is never reached.
     loop {
         let end = try_value(view, index, board, total, rest, v, value);
         let outcome = end.outcome;

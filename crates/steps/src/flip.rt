@@ -26,8 +26,13 @@ pub fn other_byte(byte: u8) -> u8
 // The flip test: whether a variable, flipped alone in the model, leaves all clauses of the formula true, or the first clause that it
 // makes false. The model is afterwards what it was: no flip is kept for the next.
 // Rules out: a flip that is kept; a clause that the forced literals make false.
-// Required of: flip_at and hint::hint_at, for a variable of the model.
-pub fn flip_test(entries: &[i32], starts: &[u16], model: &mut [u8], v: rules::Var) -> Option<ClauseNo>
+// Required of: flip_at and hint::hint_of, for a variable of the model.
+pub fn flip_test(
+    entries: &[i32],
+    starts: &[u16],
+    model: &mut [u8],
+    v: rules::Var,
+) -> Option<ClauseNo>
     requires { FlipTestOver entries.now starts.now model.old v.0 }
     ensures { FlipTested (clauses entries.now) v.0 model.old result model.new }
 {

@@ -14,7 +14,7 @@ fn read_full<R: Read>(input: &mut R, text: &mut [u8]) -> usize
     ensures { result ≤ length text.new }
 {
     let mut count: usize = 0;
-    // Stays a `while`: how far the index goes is what a read gives.
+    // Stays a `while`, beside that of streams::read_input: how far the index goes is what a read gives, and a read that fails ends it here.
     while count < text.len() {
         let n = input.read(&mut text[count..]).unwrap_or(0);
         if n == 0 {
