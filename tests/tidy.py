@@ -5,7 +5,8 @@
 
 1. A name that a `use` or `ghost use` line brings in is used in that file. Comments and other `use` lines are no use; `pub use` passes its
    names on. An operator counts by its parts (`◌∷◌` by `∷`), a module by a name that is taken from it (`tie` by `tie.close`); what stands
-   right behind a dot is the part of something else. What a `ghost use` line brings in is for contracts, so only these are looked at.
+   right behind a dot is the part of something else. What a `ghost use` line brings in is for contracts and ghost members, so only these
+   are looked at. A trait of the repository counts by a method of it that is called, too.
 2. No line has more than 160 characters.
 3. Every folder of crates/ is in crates.txt.
 
@@ -23,12 +24,15 @@ SKIPPED = re.compile(r"""b?"(?:\\.|[^"\\])*"|b?'(?:\\.|[^'\\])'|//.*""")  # text
 ANTT_SKIPPED = re.compile(r'"(?:\\.|[^"\\\n])*"|\{-.*?-\}|(?<![^\s(){}.;,@"«»])--[^\n]*', re.S)
 USE = re.compile(r"^[ \t]*(pub )?(ghost )?use\s+([^{;\n]*?)(?:\.?(?:::)?\{([^}]*)\})?\s*(?: as (\S+?))?;?[ \t]*$", re.M)
 NAME = re.compile(r'[^\s(){}.;,@"«»]+')
+TRAIT = re.compile(r"^pub trait (\w+)[^{]*\{(.*?)^\}", re.M | re.S)
 SAMPLES = (  # a text, whether it is antt, and the names that must be found in it
     ("use A.{x, ◌∷◌, ◌×◌, f as g}\ny = x × g x\n", True, ["◌∷◌"]),
     ("use A.B as b\nuse A.C as c\nuse D.{d,\n    e}\ny = b.d e -- d\n", True, ["c", "d"]),
     ("ghost use A.{◌+◌, p};\nfn f(x: u8) -> u8\n    ensures { p result }\n{\n    x + 1\n}\n", False, ["◌+◌"]),
     ("ghost use A.{a_b, c};\nfn f(x: u8) -> u8\n    ensures one { a result }\n    ensures two { b c }\n{\n    x\n}\n", False, ["a_b"]),
     ("use a::B;\nuse a::C;\nfn f(c: C) {} // B\n", False, ["B"]),
+    ("ghost use A.{a, b, c};\nimpl T for u8 {\n    ghost one = { a };\n}\ntrait U {\n    ghost two: { b };\n}\n", False, ["c"]),
+    ("use a::Called;\nuse a::Idle;\nfn f(c: u8) -> u8 {\n    c.called()\n}\n", False, ["Idle"]),
 )
 
 
@@ -59,9 +63,9 @@ def is_used(name, plain):
 
 
 def contracts(text):
-    """What stands in the braces behind `requires` and `ensures`."""
+    """What stands in the braces behind `requires`, `ensures` and a ghost member."""
     found = []
-    for match in re.finditer(r"\b(?:requires|ensures)\b[^{\n]*\{", text):
+    for match in re.finditer(r"\b(?:requires|ensures|ghost (?!use\b)\w+\s*[:=])[^{\n]*\{", text):
         depth, at = 1, match.end()
         while depth and at < len(text):
             depth += {"{": 1, "}": -1}.get(text[at], 0)
@@ -70,7 +74,20 @@ def contracts(text):
     return "\n".join(found)
 
 
-def unused(text, antt):
+def traits():
+    """The traits of the repository, and the methods of each."""
+    found = {}
+    for folder, below, inside in os.walk(os.path.join(TOP, "crates")):
+        below[:] = [name for name in below if name != "out"]
+        for name in inside:
+            if name.endswith(".rt"):
+                with open(os.path.join(folder, name), encoding="utf-8") as opened:
+                    for match in TRAIT.finditer(opened.read()):
+                        found[match.group(1)] = re.findall(r"\bfn (\w+)", match.group(2))
+    return found
+
+
+def unused(text, antt, methods):
     """Line and name of each import that is not used."""
     text = (ANTT_SKIPPED if antt else SKIPPED).sub(blank, text)
     uses = list(USE.finditer(text))
@@ -83,6 +100,8 @@ def unused(text, antt):
             continue
         in_antt = antt or ghost
         plain, from_it = (said, said_from) if in_antt else (here | said, here_from | said_from)
+        if not in_antt:
+            plain = plain | {trait for trait, called in methods.items() if any(re.search(rf"\.{name}\(", body) for name in called)}
         line = text.count("\n", 0, use.start()) + 1
         if names is None:
             name = alias or re.split(r"\.|::", path.strip())[-1]
@@ -99,9 +118,11 @@ def unused(text, antt):
 
 def main(named):
     for text, antt, names in SAMPLES:
-        if [name for _, name in unused(text, antt)] != names:
-            print(f"tidy: of a sample {names} must be found, and {list(unused(text, antt))} is")
+        found = [name for _, name in unused(text, antt, {"Called": ["called"], "Idle": ["idle"]})]
+        if found != names:
+            print(f"tidy: of a sample {names} must be found, and {found} is")
             return 2
+    methods = traits()
     wrong, files = 0, 0
     crates = sorted(os.listdir(os.path.join(TOP, "crates")))
     with open(os.path.join(TOP, "crates.txt"), encoding="utf-8") as listed:
@@ -125,7 +146,7 @@ def main(named):
                     if len(line) > WIDEST:
                         print(f"tidy: {shown}:{number}: {len(line)} characters")
                         wrong += 1
-                for number, word in unused(text, name.endswith(".antt")):
+                for number, word in unused(text, name.endswith(".antt"), methods):
                     print(f"tidy: {shown}:{number}: {word} is brought in and not used")
                     wrong += 1
     if not files:

@@ -1,5 +1,5 @@
-// One step over a file of claims, docs/RULES.md, "Claims": the next number where something is due, or the answer where there is none. An answer that ends the judgement is
-// an Err in each step.
+// One step over a file of claims, docs/RULES.md, "Claims": the next number where something is due, or the answer where there is none. An
+// answer that ends the judgement is an Err in each step.
 ghost use Rattle.claims.specs.Steps.{NumberDue};
 
 use reader::next::{Spot, next_number};

@@ -10,18 +10,16 @@
 use mathlib.Core.Path.{◌≡◌, refl, sym, ◌∙◌, ap}
 use mathlib.Core.Bool.{Bool, true, false, not}
 use mathlib.Core.List.{List}
-use mathlib.Core.Option.{Option, none, some}
 use Prim.Native.Nat.{ℕ, pred, ◌+◌, ◌≤◌, ◌<◌}
 use native.Mathlib.Numerals.{add-one}
 use lib.ListN.{length, get_or, set}
 use lib.Seq.{set-set, set-get_or}
 use Rattle.rules.specs.declared.ClauseNo.{ClauseNo}
-use Rattle.std.specs.declared.option.Option.{Option as Outcome}
+use Rattle.std.specs.declared.option.Option.{Option}
 use Rattle.std.specs.Prelude.{Some, None, is_some}
 use Rattle.rules.specs.Meaning.{Clause, Values}
 use Rattle.rules.specs.Run.{can_flip}
-use Rattle.rules.specs.Hints.{flip_by, flip_test, may_flip}
-use Rattle.formula.specs.Formula.{first_false_of}
+use Rattle.rules.specs.Hints.{flip_test, may_flip}
 use Rattle.steps.specs.Filter.{DropsAt}
 use Rattle.steps.specs.Flip.{FlipTested, FlipsAt, Flips}
 use Rattle.steps.proofs.FilterLaws.{Filtering, filtering_step, filtering_done}
@@ -35,16 +33,16 @@ taken_back vs i b = set-set vs i b (get_or vs i 0) ∙ set-get_or vs i 0
 
 -- ---- one index
 
-pub tested_at : {F : List Clause} (i : ℕ) {m m' : Values} {f : Outcome ClauseNo} → FlipTested F (i + 1) m f m' → f ≡ flip_test F m i
+pub tested_at : {F : List Clause} (i : ℕ) {m m' : Values} {f : Option ClauseNo} → FlipTested F (i + 1) m f m' → f ≡ flip_test F m i
 tested_at {F} i {m} c = c.result_is ∙ ap (flip_test F m) (ap pred (add-one i))
 
-pub none_may : (f : Outcome ClauseNo) (r : Bool) → is_some f ≡ not r → r ≡ may_flip f
+pub none_may : (f : Option ClauseNo) (r : Bool) → is_some f ≡ not r → r ≡ may_flip f
 none_may None true e = refl
 none_may None false e = apart cc
 none_may (Some n) true e = apart cc
 none_may (Some n) false e = refl
 
-pub flips_open : {F : List Clause} {i d : ℕ} {m m' : Values} {f : Outcome ClauseNo} {r : Bool} {ss ts : List ℕ} → FlipTested F (i + 1) m f m' → r ≡ may_flip f
+pub flips_open : {F : List Clause} {i d : ℕ} {m m' : Values} {f : Option ClauseNo} {r : Bool} {ss ts : List ℕ} → FlipTested F (i + 1) m f m' → r ≡ may_flip f
     → DropsAt i r ss d ts → FlipsAt F i m ss d m' ts
 flips_open {F} {i} {d} {m} {m'} {f} {r} c q w =
     let e : r ≡ can_flip F m i = q ∙ ap may_flip (tested_at i c) ∙ can_flip-may_flip F m i in

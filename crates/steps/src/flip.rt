@@ -1,9 +1,8 @@
 // Flips (docs/RULES.md, "Run"): each remaining candidate whose variable, flipped alone in the model, leaves all clauses of the formula
 // true is dropped. Neither the constraint nor the forced literals are consulted.
-ghost use Rattle.std.specs.Prelude.{◌≡◌, length};
+ghost use Rattle.std.specs.Prelude.{◌≡◌};
 ghost use Rattle.rules.specs.Meaning.{clauses};
 ghost use Rattle.rules.specs.Run.{other_byte};
-ghost use Rattle.formula.specs.Formula.{Formula};
 ghost use Rattle.steps.specs.Flip.{FlipTestOver, FlipTested, FlipAtOver, FlipsAt, FlipOver, Flips};
 
 use formula::first_false::first_false;

@@ -64,5 +64,7 @@ returns-in-Ok t c =
           tree_both (rw c.in-Split.is at c.in_ok-node.ensures) c.in-Ok.ensures.read
           (subst (λ (us : Values). TreeRead (clauses c.args.entries.now) c.args.text.now us c.in-Ok.next c.check_tree-last.result) again
           c.check_tree-last.ensures.read);
-      same = taken_back before c.check_tree-last.new.values i _ (split_unset (rw c.in-Split.is at c.in_ok-node.ensures)) (c.check_tree-last.ensures.same ∙ again);
+      same =
+          taken_back before c.check_tree-last.new.values i _ (split_unset (rw c.in-Split.is at c.in_ok-node.ensures))
+          (c.check_tree-last.ensures.same ∙ again);
     }

@@ -16,7 +16,8 @@ put_group-next-requires c =
     let l = c.loop-size in
     let sizes = c.args.sizes.now in (
       putting_fits l.invariant.0 c.requires.0 (entries_of (group_clauses l.first (get_or sizes l.size-index 0)))
-          (entries_of (groups_from (l.first + get_or sizes l.size-index 0) (drop (l.size-index + 1) sizes))) (groups_later l.first sizes l.size-index c.loop-size-test.true),
+          (entries_of (groups_from (l.first + get_or sizes l.size-index 0) (drop (l.size-index + 1) sizes)))
+          (groups_later l.first sizes l.size-index c.loop-size-test.true),
       small,
     )
 
@@ -25,7 +26,8 @@ loop-size-preserved c =
     let l = c.loop-size in
     let sizes = c.args.sizes.now in (
       putting_step l.invariant.0 (entries_of (group_clauses l.first (get_or sizes l.size-index 0)))
-          (entries_of (groups_from (l.first + get_or sizes l.size-index 0) (drop (l.size-index + 1) sizes))) (groups_later l.first sizes l.size-index c.loop-size-test.true)
+          (entries_of (groups_from (l.first + get_or sizes l.size-index 0) (drop (l.size-index + 1) sizes)))
+          (groups_later l.first sizes l.size-index c.loop-size-test.true)
           c.put_group-next.ensures,
       omega (arith, l.invariant.1, sizes-next sizes l.size-index c.loop-size-test.true),
     )

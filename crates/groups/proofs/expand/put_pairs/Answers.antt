@@ -26,6 +26,7 @@ loop-low-preserved c =
     let stored = rw (add-one l.low, same) at c.put_pairs_with-next.ensures in (
       l.invariant.0 - 1,
       rw (add-one l.low) (putting_step l.invariant.1 (entries_of (pairs_with l.low (suc l.low) (l.invariant.0 - 1)))
-          (entries_of (pairs_from (suc l.low) (l.invariant.0 - 1))) (pairs_later l.low l.invariant.0 (omega (arith, l.invariant.2, c.loop-low-test.true))) stored),
+          (entries_of (pairs_from (suc l.low) (l.invariant.0 - 1)))
+          (pairs_later l.low l.invariant.0 (omega (arith, l.invariant.2, c.loop-low-test.true))) stored),
       omega (arith, l.invariant.2, c.loop-low-test.true),
     )
