@@ -149,8 +149,10 @@ pub fn run_calls(
     requires { RunOver entries.now starts.now first.now status.old calls.old ways.old log.old values.old t limits
         × BoardKept (length status.old) entries.now room.old.lists.now room.old.holders.now room.old.marks.now
         room.old.board.values.now room.old.board.keys.now room.old.board.hot.now room.old.board.trail.now }
-    ensures { RunEnds entries.now limits t first.now status.old calls.old ways.old
+    ensures run { RunEnds entries.now limits t first.now status.old calls.old ways.old
         log.old result status.new calls.new ways.new log.new }
+    ensures kept { BoardKept (length status.old) entries.now room.new.lists.now room.new.holders.now room.new.marks.now
+        room.new.board.values.now room.new.board.keys.now room.new.board.hot.now room.new.board.trail.now }
 {
     let mut tally = t;
     // Stays a `while`: how many candidates are left, the calls say.

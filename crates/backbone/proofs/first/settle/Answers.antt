@@ -66,8 +66,8 @@ returns c =
     c.after_model-next.ensures.flips.model_same there.1.status_is c.put_records.ensures in
     let found = c.requires.0.found in
     let len = c.after_model-next.auto.status in
-    let ends = rw len at c.run_calls.ensures.ends in
-    let records = rw len at c.run_calls.ensures.records in
+    let ends = rw len at c.run_calls.ensures.run.ends in
+    let records = rw len at c.run_calls.ensures.run.records in
     let here = settled_at c.requires.0 c.copy_first.ensures c.started-t.ensures c.after_model-next.ensures in
     record {
       done = done_from_model k m c.args.spent found there.0 (ends here);

@@ -74,10 +74,14 @@ returns-in-Break c =
     let l = w.running in
     let ensured = rw l.status_len at c.next_call.ensures.0 in
     record {
-      ends = λ v. going_end p.allowed.some l.going ensured c.in-Break.is v;
-      records =
-          λ v x. kept_end p.allowed.some l.going ensured c.loop-tally-test.true w.shown
-          c.in-Break.is v x;
+      run =
+          record {
+            ends = λ v. going_end p.allowed.some l.going ensured c.in-Break.is v;
+            records =
+                λ v x. kept_end p.allowed.some l.going ensured c.loop-tally-test.true w.shown
+                c.in-Break.is v x;
+          };
+      kept = rw l.status_len at c.next_call.ensures.1;
     }
 
 pub returns : goal.returns
@@ -85,6 +89,10 @@ returns c =
     let p = c.requires.0.over in
     let w = c.loop-tally.invariant.0 in
     record {
-      ends = λ v. going_done p.allowed.some w.running.going c.loop-tally-test.false v;
-      records = λ v x. kept_done p.allowed.some w.running.going c.loop-tally-test.false v (w.shown v x);
+      run =
+          record {
+            ends = λ v. going_done p.allowed.some w.running.going c.loop-tally-test.false v;
+            records = λ v x. kept_done p.allowed.some w.running.going c.loop-tally-test.false v (w.shown v x);
+          };
+      kept = c.loop-tally.invariant.1;
     }
