@@ -8,8 +8,8 @@ ghost use Rattle.buffers.specs.Put.{Put, Room};
 ghost use Rattle.folded.specs.Folded.{other_line, is_other, ClauseOf};
 
 use crate::clause::put_clause;
-use formula::state::has_true;
 use formula::clause::clause_at;
+use formula::state::has_true;
 use rules::ClauseNo;
 
 // Whether clause n holds no forced literal.

@@ -4,8 +4,8 @@ ghost use Rattle.texts.specs.Printed.{refused_line, answer_line, status_words, s
 ghost use Rattle.buffers.specs.Put.{Put, Room};
 ghost use Rattle.lines.specs.Lines.{status_line, count_fields, end_fields, LinesOver};
 
-use rules::numbers::Answer;
 use buffers::put::{put_byte, put_decimal, put_field, put_word};
+use rules::numbers::Answer;
 
 // The line of a refusal.
 // Rules out: number and place exchanged; a line without LF.

@@ -2,8 +2,8 @@
 
 // The reader at its edges: docs/RULES.md, "The text" and "What comes back". A line a text: its name, number and place, V, C and the
 // entry count. `crates/reader_test/stdout` was written by hand from the page.
-use rules::numbers::Answer;
 use rules::Reading;
+use rules::numbers::Answer;
 use std::io;
 
 fn word(rt: &impl Print, text: &[u8]) -> io::Result<()> {
