@@ -48,10 +48,10 @@ fn reading_numbers(reading: rules::Reading) -> IgbReading
     requires { ReadingFits reading }
     ensures { result ≡ reading_numbers reading }
 {
-    let answer = reading.answer;
+    let read = reading.answer;
     IgbReading {
-        answer: answer.number(),
-        place: answer.place() as u32,
+        answer: read.number(),
+        place: read.place() as u32,
         vars: reading.vars,
         clauses: reading.clauses,
         count: reading.entries as u32,

@@ -2,7 +2,7 @@
 --
 --   held_found, bad_held_found, held_found     the held literals, in the order of their rules
 --   after_list, of_list     the rules of the list before those of the held literals
---   list_found, zero_over_found, above_found, list_found_lem     the list, in the order of its rules
+--   list_found, list_long_found, zero_over_found, above_found, list_found_lem     the list, in the order of its rules
 --
 -- Assumes nothing.
 use mathlib.Core.Path.{◌≡◌, refl, sym, ◌∙◌, ap}
@@ -10,7 +10,7 @@ use mathlib.Core.Bool.{true, false}
 use mathlib.Core.List.{List, ◌++◌}
 use mathlib.Core.Option.{Option, none, some}
 use Rattle.std.specs.Prelude.{Some, None, Result, Ok, Err}
-use Prim.Native.Nat.{ℕ, ◌≤◌}
+use Prim.Native.Nat.{ℕ, ◌≤◌, ◌<◌}
 use native.Mathlib.Omega.{arith}
 use lib.IntN.{ℤ}
 use lib.ListN.{length}
@@ -21,7 +21,7 @@ use Rattle.rules.specs.Held.{is_no_literal, held_rules}
 use Rattle.rules.specs.Answer.{is_ended, is_above, list_rules, taking_rules}
 use Rattle.rules.proofs.ListLaws.{any_of_count, count_zero}
 use Rattle.rules.proofs.AnswerLaws.{nth_index_below, nth_index_above}
-use Rattle.rules.proofs.AnswerLaws.{zero_over_first, above_first, list_first}
+use Rattle.rules.proofs.AnswerLaws.{list_long_first, zero_over_first, above_first, list_first}
 use Rattle.rules.proofs.AnswerLaws.{first_front, first_back, bad_held_first, held_first}
 use Rattle.refusals.specs.Refuse.{found, or_rest, nth_within}
 use Rattle.refusals.proofs.RefuseLaws.{found_within, none_within}
@@ -32,6 +32,9 @@ module _ (es : List ℤ) (vars : ℕ) where
   -- what `refuse_list` finds
   abbrev pub list_found : Result (Unit {0}) Refusal
   list_found = found (first_of (list_rules es vars))
+
+  pub list_long_found : max_entries < length es → Err (Refusal.BadList max_entries) ≡ list_found
+  list_long_found h = ap found (sym (list_long_first es vars h))
 
   module _ (short : length es ≤ max_entries) where
     module _ (ended : is_ended es ≡ true) where

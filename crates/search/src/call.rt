@@ -54,7 +54,7 @@ fn goes_again(outcome: Outcome, value: bool) -> bool
 // Going on: close; on a clash there is no model here; if all variables are set, this is the model; otherwise take the lowest unset
 // variable, below which and so below `from` all are set, and try it false, then, if that finds nothing, true.
 // Rules out: the model with true before false; stopped as none.
-// Required of: whole::call_in, for the board that shows the values at the start; try_value, which requires it too.
+// Required of: whole::call_over, for the board that shows the values at the start; try_value, which requires it too.
 #[cycle(go_on_try_value)]
 pub fn go_on(
     view: &View,
