@@ -4,18 +4,18 @@ ghost use Rattle.texts.specs.Printed.{refused_line, answer_line, status_words, s
 ghost use Rattle.buffers.specs.Put.{Put, Room};
 ghost use Rattle.lines.specs.Lines.{status_line, count_fields, end_fields, LinesOver};
 
-use rules::numbers::Answer;
 use buffers::put::{put_byte, put_decimal, put_field, put_word};
+use rules::numbers::Answer;
 
 // The line of a refusal.
 // Rules out: number and place exchanged; a line without LF.
 // Required of: printed::table::put_text, whose room is the whole table's.
-pub fn put_refused(out: &mut [u8], at: usize, number: u32, place: usize) -> usize
-    requires { Room at (refused_line number place) out.old }
-    ensures { Put at (refused_line number place) out.old result out.new }
+pub fn put_refused<A: Answer + Copy>(out: &mut [u8], at: usize, answer: A) -> usize
+    requires { Room at (refused_line (A.number_of answer) (A.place_of answer)) out.old }
+    ensures { Put at (refused_line (A.number_of answer) (A.place_of answer)) out.old result out.new }
 {
-    let behind_number = put_field(out, at, b"refused ", number as usize);
-    let behind_place = put_field(out, behind_number, b" place ", place);
+    let behind_number = put_field(out, at, b"refused ", answer.number() as usize);
+    let behind_place = put_field(out, behind_number, b" place ", answer.place());
     put_byte(out, behind_place, 10)
 }
 

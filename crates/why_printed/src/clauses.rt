@@ -8,8 +8,8 @@ ghost use Rattle.why_printed.specs.Reason.{ClausesReady, ReasonReady, ReasonPut}
 
 use crate::line::{put_clause, put_first};
 use buffers::count::count_set;
-use formula::starts::find_starts;
 use formula::clause::clause_at;
+use formula::starts::find_starts;
 use rules::ClauseNo;
 
 // The line of clause n if its mark is not 0.
