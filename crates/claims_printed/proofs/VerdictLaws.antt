@@ -1,7 +1,6 @@
 -- The laws of the printed verdict: its line as it is put, how long it is, what a reading leaves, and the contract.
 --
 --   accepted_line     the fields as they are put are the line
---   other_line        the line of another answer
 --   length-claims_text_of     no line is longer than 64 bytes
 --   read_list, list_text, read_line     what a reading leaves: an entry list, or a refusal
 --   prints_short, whole_room, prints_verdict     the contract, in a short buffer and in others
@@ -24,7 +23,7 @@ use Rattle.rules.specs.declared.Reading.{Reading}
 use Rattle.rules.specs.declared.Refusal.{Refusal}
 use Rattle.rules.specs.declared.ClaimsAnswer.{ClaimsAnswer}
 use Rattle.rules.specs.Lists.{joined}
-use Rattle.rules.specs.Numbers.{max_text, max_entries, read_number, read_place, refusal_number, refusal_place, claims_number, claims_place}
+use Rattle.rules.specs.Numbers.{max_text, max_entries, read_number, read_place, refusal_number, refusal_place, claims_place}
 use Rattle.rules.specs.Meaning.{Values}
 use Rattle.texts.specs.Text.{Sizes}
 use Rattle.texts.specs.Reading.{Judged, accepted, refused, judge, Reads}
@@ -57,14 +56,6 @@ use Rattle.buffers.proofs.RoomLaws.{short_count, short_bytes, whole_count, whole
 
 pub accepted_line : (n : ℕ) → (accepted_word ++ decimal n) ++ (claims_word ++ 10 ∷ []) ≡ claims_line (ClaimsAnswer.Accepted n)
 accepted_line n = sym (append_assoc (accepted_word ++ decimal n) claims_word (10 ∷ []))
-
--- the line of another answer, by its number and place
-pub other_line : (a : ClaimsAnswer) → ((n : ℕ) → a ≢ ClaimsAnswer.Accepted n) → refused_line (claims_number a) (claims_place a) ≡ claims_line a
-other_line (ClaimsAnswer.Accepted n) h = absurd (h n refl)
-other_line ClaimsAnswer.LongText h = refl
-other_line (ClaimsAnswer.BadToken at) h = refl
-other_line (ClaimsAnswer.Rejected at) h = refl
-other_line (ClaimsAnswer.Refused r) h = refl
 
 -- ---- how long it is
 
