@@ -1,14 +1,14 @@
 -- The laws of the printed verdict: its line as it is put, how long it is, what a reading leaves, and the contract.
 --
 --   accepted_line     the fields as they are put are the line
---   line_by, long_line, token_line, rejected_line, formula_line     the line of another answer
 --   length-claims_text_of     no line is longer than 64 bytes
---   list_text, refused_text     what a reading leaves: an entry list, or a refusal
+--   read_list, list_text, read_line     what a reading leaves: an entry list, or a refusal
 --   prints_short, whole_room, prints_verdict     the contract, in a short buffer and in others
 --   prints_claims_unique, prints_le     no second result meets it; how many bytes are put at most
 --
 -- Assumes nothing.
 use mathlib.Core.Path.{◌≡◌, refl, sym, ◌∙◌, ap}
+use mathlib.Core.Logic.{◌≢◌}
 use mathlib.Core.Bool.{Bool, true, false}
 use mathlib.Core.List.Memᴰ
 use mathlib.Core.List.{List, [], ◌∷◌, ◌++◌, map, append_assoc}
@@ -23,10 +23,10 @@ use Rattle.rules.specs.declared.Reading.{Reading}
 use Rattle.rules.specs.declared.Refusal.{Refusal}
 use Rattle.rules.specs.declared.ClaimsAnswer.{ClaimsAnswer}
 use Rattle.rules.specs.Lists.{joined}
-use Rattle.rules.specs.Numbers.{max_text, max_entries, read_number, read_place, refusal_number, refusal_place, claims_number, claims_place}
+use Rattle.rules.specs.Numbers.{max_text, max_entries, read_number, read_place, refusal_number, refusal_place, claims_place}
 use Rattle.rules.specs.Meaning.{Values}
 use Rattle.texts.specs.Text.{Sizes}
-use Rattle.texts.specs.Reading.{Judged, accepted, refused, judge}
+use Rattle.texts.specs.Reading.{Judged, accepted, refused, judge, Reads}
 use Rattle.texts.specs.Grammar.{Token, Dimacs}
 use Rattle.texts.specs.Plain.{decimal}
 use Rattle.texts.specs.Printed.{refused_line, count_if_room}
@@ -44,9 +44,11 @@ use Rattle.texts.proofs.PlaceLaws.{refuses_place}
 use Rattle.texts.proofs.TableLaws.{read_number_le, refusal_number_le, length-refused_line}
 use Rattle.rules.proofs.AnswerLaws.{lent_alone}
 use Rattle.texts.proofs.TextTheorems.{dimacs_runs}
+use Rattle.texts.proofs.ReadList as reading
 use Rattle.texts.proofs.ReadList.{ReadList}
 use Rattle.texts.proofs.ClaimsJudged.{refusal_none}
 use Rattle.texts.proofs.Theorems as text-theorems
+use Rattle.lines.proofs.LineLaws.{refused_some}
 use Rattle.buffers.specs.Put.{Room, Put}
 use Rattle.buffers.proofs.RoomLaws.{short_count, short_bytes, whole_count, whole_bytes}
 
@@ -54,25 +56,6 @@ use Rattle.buffers.proofs.RoomLaws.{short_count, short_bytes, whole_count, whole
 
 pub accepted_line : (n : ℕ) → (accepted_word ++ decimal n) ++ (claims_word ++ 10 ∷ []) ≡ claims_line (ClaimsAnswer.Accepted n)
 accepted_line n = sym (append_assoc (accepted_word ++ decimal n) claims_word (10 ∷ []))
-
--- the line of another answer, by its number and place
-pub line_by : {number place : ℕ} (a : ClaimsAnswer) → number ≡ claims_number a → place ≡ claims_place a
-    → refused_line (claims_number a) (claims_place a) ≡ claims_line a → refused_line number place ≡ claims_line a
-line_by {place = place} a n p e =
-    ap (λ (x : ℕ). refused_line x place) n ∙ ap (λ (x : ℕ). refused_line (claims_number a) x) p ∙ e
-
-module _ (a : ClaimsAnswer) where
-  pub long_line : a ≡ ClaimsAnswer.LongText → refused_line (claims_number a) (claims_place a) ≡ claims_line a
-  long_line e = rw e refl
-
-  pub token_line : (at : ℕ) → a ≡ ClaimsAnswer.BadToken at → refused_line (claims_number a) (claims_place a) ≡ claims_line a
-  token_line at e = rw e refl
-
-  pub rejected_line : (at : ℕ) → a ≡ ClaimsAnswer.Rejected at → refused_line (claims_number a) (claims_place a) ≡ claims_line a
-  rejected_line at e = rw e refl
-
-  pub formula_line : (r : Refusal) → a ≡ ClaimsAnswer.Refused r → refused_line (claims_number a) (claims_place a) ≡ claims_line a
-  formula_line r e = rw e refl
 
 -- ---- how long it is
 
@@ -153,10 +136,13 @@ list_text {r = r} {after = after} claims w =
     ap (λ (j : Judged). claims_text_of_judged j claims) w.judged ∙
     ap (λ (n : ℕ). claims_line (claims_answer (claims_given (take r.entries after) n claims))) (sym w.vars_are)
 
-pub refused_text : (text claims : List ℕ) {a : ReadAnswer} → judge max_entries text ≡ refused a
-    → claims_text_of text claims ≡ refused_line (read_number a) (read_place a)
-unfolding claims_text_of
-refused_text text claims e = ap (λ (j : Judged). claims_text_of_judged j claims) e
+module _ {text : List ℕ} {before : List ℤ} {r : Reading} {after : List ℤ} (d : Reads text before r after) (z : length before ≡ max_entries) where
+  pub read_list : r.answer ≡ ReadAnswer.Accepted → ReadList text r after
+  read_list h = reading.read_list d z (ap read_number h)
+
+  pub read_line : (claims : List ℕ) → r.answer ≢ ReadAnswer.Accepted → claims_text_of text claims ≡ refused_line (read_number r.answer) (read_place r.answer)
+  unfolding claims_text_of
+  read_line claims h = ap (λ (j : Judged). claims_text_of_judged j claims) (reading.read_refused d z (refused_some r.answer h))
 
 -- ---- the contract
 

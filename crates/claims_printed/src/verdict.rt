@@ -8,8 +8,7 @@ ghost use Rattle.claims_printed.specs.Verdict.{TextPut};
 
 use buffers::put::{put_byte, put_field, put_word};
 use lines::line::put_refused;
-use rules::ClaimsAnswer;
-use rules::numbers::Answer;
+use rules::{ClaimsAnswer, ReadAnswer};
 
 // The line of an accepted file.
 // Rules out: a number that is not that of its claims; a line without LF.
@@ -30,14 +29,9 @@ fn put_verdict(out: &mut [u8], answer: ClaimsAnswer) -> usize
     requires { Room 0 (claims_line answer) out.old }
     ensures { Put 0 (claims_line answer) out.old result out.new }
 {
-    let number = answer.number();
-    let place = answer.place();
     match answer {
         ClaimsAnswer::Accepted(n) => put_accepted(out, n),
-        ClaimsAnswer::LongText => put_refused(out, 0, number, place),
-        ClaimsAnswer::BadToken(_) => put_refused(out, 0, number, place),
-        ClaimsAnswer::Rejected(_) => put_refused(out, 0, number, place),
-        ClaimsAnswer::Refused(_) => put_refused(out, 0, number, place),
+        answer => put_refused(out, 0, answer),
     }
 }
 
@@ -49,14 +43,11 @@ pub fn put_text(out: &mut [u8], text: &[u8], claims: &[u8], entries: &mut [i32])
     ensures { TextPut text.now claims.now entries.old out.old result entries.new out.new }
 {
     let reading = reader::read(text, entries);
-    let answer = reading.answer;
-    let number = answer.number();
-    if number == 0 {
-        let n = reading.entries;
-        let vars = reading.vars;
-        let verdict = claims::check_claims(&entries[..n], vars, claims);
-        return put_verdict(out, verdict);
+    match reading.answer {
+        ReadAnswer::Accepted => {
+            let verdict = claims::check_claims(&entries[..reading.entries], reading.vars, claims);
+            put_verdict(out, verdict)
+        }
+        answer => put_refused(out, 0, answer),
     }
-    let place = answer.place();
-    put_refused(out, 0, number, place)
 }

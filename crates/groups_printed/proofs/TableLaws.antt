@@ -1,6 +1,6 @@
 -- The laws of the table of groups: by the number of the answer it is the lines that are put, and what a run or a reading leaves is what it is of.
 --
---   table_room, table_first, table_lines     the answer line, the table after 20, and after 0 and 21
+--   table_lines       the table after 0 and 21
 --   run_ready, run_table          what a run with buffers of just the size leaves, and its table
 --   ReadList, read_list, read_line     what a reading leaves: an expanded list, or the line of its refusal
 --   prints_short, whole_room, prints_table     the contract, in a short buffer and in others
@@ -17,10 +17,11 @@ use lib.Dec.{leb}
 use lib.IntN.{ℤ, pos}
 use lib.ListN.{length, take, drop, replicate, length-append, length-replicate}
 use lib.Seq.{take_at}
+use Rattle.rules.specs.declared.GroupsAnswer.{GroupsAnswer}
 use Rattle.rules.specs.declared.GroupsReading.{GroupsReading}
 use Rattle.rules.specs.declared.RunAnswer.{RunAnswer}
 use Rattle.rules.specs.declared.Report.{Report}
-use Rattle.rules.specs.Numbers.{max_entries, run_number, groups_number, groups_place}
+use Rattle.rules.specs.Numbers.{max_entries, groups_number, groups_place}
 use Rattle.rules.specs.Answer.{Buffers, given, report_of, status_after, Runs}
 use Rattle.rules.specs.RunRefusals.{Formed, Accepted}
 use Rattle.texts.specs.Printed.{refused_line, answer_line, table_budget, table_chunk, count_if_room}
@@ -30,10 +31,10 @@ use Rattle.texts.specs.GroupsRefusals.{GroupsRefuses}
 use Rattle.texts.specs.GroupsPrinted.{group_lines, groups_table_by, groups_table_of_run, groups_run, groups_table_of_list, groups_table_of}
 use Rattle.texts.specs.GroupsPrinted.{max_groups_table, PrintsGroups}
 use Rattle.texts.proofs.TableLaws.{run_bounded}
-use Rattle.texts.proofs.GroupsRead.{accepted_of, Roomy, FileOf, groups_accepts, groups_accepted, groups_refuses}
+use Rattle.texts.proofs.GroupsRead.{Roomy, FileOf, groups_accepts, groups_accepted, groups_refuses}
 use Rattle.texts.proofs.GroupsText.{groups_run_accepted, groups_table_refused, groups_table_list, length-groups_table_of}
 use Rattle.buffers.specs.Put.{Room, Put}
-use Rattle.buffers.proofs.PutLaws.{room_first, room_same}
+use Rattle.buffers.proofs.PutLaws.{room_same}
 use Rattle.buffers.proofs.RoomLaws.{short_count, short_bytes, whole_count, whole_bytes}
 use Rattle.printed.specs.Table.{Sized, Ran}
 use Rattle.printed.proofs.TableLaws.{counted_le, run_same, statuses_same}
@@ -41,26 +42,14 @@ use Rattle.groups_printed.specs.Table.{TableReady, ListReady}
 
 -- ---- by the number of the answer
 
-module _ (sizes : List ℕ) (r : Report) (ss : List ℕ) where
-  pub table_first : (a : RunAnswer) → Ran a → run_number a ≡ 20 → groups_table_by a sizes r ss ≡ answer_line (vars_in sizes) r
-  table_first a (inl e) h = absurd (omega (arith, ap run_number e, h))
-  table_first a (inr (inl e)) h = ap (λ (b : RunAnswer). groups_table_by b sizes r ss) e
-  table_first a (inr (inr e)) h = absurd (omega (arith, ap run_number e, h))
-
-  pub table_lines : (a : RunAnswer) → Ran a → run_number a ≢ 20 → groups_table_by a sizes r ss ≡ answer_line (vars_in sizes) r ++ group_lines 1 sizes ss
-  table_lines a (inl e) h = ap (λ (b : RunAnswer). groups_table_by b sizes r ss) e
-  table_lines a (inr (inl e)) h = absurd (h (ap run_number e))
-  table_lines a (inr (inr e)) h = ap (λ (b : RunAnswer). groups_table_by b sizes r ss) e
-
-pub table_room : {sizes : List ℕ} {vars : ℕ} {r : Report} {ss out : List ℕ} → TableReady sizes vars r ss out → Room 0 (answer_line vars r) out
-table_room {sizes} {vars} {r} {ss} {out} w = room_same (ap (λ (v : ℕ). answer_line v r) (sym w.vars_are)) (go w.ran)
+pub table_lines : {sizes : List ℕ} {vars : ℕ} {r : Report} {ss out : List ℕ} → TableReady sizes vars r ss out → r.answer ≢ RunAnswer.NoModel
+    → answer_line vars r ++ group_lines 1 sizes ss ≡ groups_table_of_run sizes r ss
+table_lines {sizes} {vars} {r} {ss} w h = ap (λ (v : ℕ). answer_line v r ++ group_lines 1 sizes ss) w.vars_are ∙ go w.ran
   where
-    go : Ran r.answer → Room 0 (answer_line (vars_in sizes) r) out
-    go (inl e) =
-        room_first (answer_line (vars_in sizes) r) (group_lines 1 sizes ss) (room_same (ap (λ (b : RunAnswer). groups_table_by b sizes r ss) e) w.room)
-    go (inr (inl e)) = room_same (ap (λ (b : RunAnswer). groups_table_by b sizes r ss) e) w.room
-    go (inr (inr e)) =
-        room_first (answer_line (vars_in sizes) r) (group_lines 1 sizes ss) (room_same (ap (λ (b : RunAnswer). groups_table_by b sizes r ss) e) w.room)
+    go : Ran r.answer → answer_line (vars_in sizes) r ++ group_lines 1 sizes ss ≡ groups_table_of_run sizes r ss
+    go (inl e) = sym (ap (λ (b : RunAnswer). groups_table_by b sizes r ss) e)
+    go (inr (inl e)) = absurd (h e)
+    go (inr (inr e)) = sym (ap (λ (b : RunAnswer). groups_table_by b sizes r ss) e)
 
 -- ---- the run
 
@@ -114,15 +103,15 @@ module _ {text : List ℕ} {eb : List ℤ} {sb : List ℕ} {r : GroupsReading} {
   abbrev g : GroupsGiven
   g = groups_given text eb sb
 
-  pub read_line : groups_number r.answer ≢ 0 → groups_table_of text ≡ refused_line (groups_number r.answer) (groups_place r.answer)
+  pub read_line : r.answer ≢ GroupsAnswer.Accepted → groups_table_of text ≡ refused_line (groups_number r.answer) (groups_place r.answer)
   read_line h =
       groups_table_refused text r.answer
       (subst (λ (n : ℕ). GroupsRefuses n max_groups text r.answer) z (subst (λ (n : ℕ). GroupsRefuses (length eb) n text r.answer) y
-      ((groups_refuses g r.answer (λ e. h (ap groups_number e))).0 (ap (λ (q : GroupsReading). q.answer) (sym d.result_is)))))
+      ((groups_refuses g r.answer h).0 (ap (λ (q : GroupsReading). q.answer) (sym d.result_is)))))
 
-  pub read_list : groups_number r.answer ≡ 0 → ReadList text r ea sa
+  pub read_list : r.answer ≡ GroupsAnswer.Accepted → ReadList text r ea sa
   read_list h =
-      let (roomy, file) = (groups_accepted g).0 (ap (λ (q : GroupsReading). q.answer) (sym d.result_is) ∙ accepted_of r.answer h) in
+      let (roomy, file) = (groups_accepted g).0 (ap (λ (q : GroupsReading). q.answer) (sym d.result_is) ∙ h) in
       made file roomy
     where
       made : FileOf text → Roomy g → ReadList text r ea sa

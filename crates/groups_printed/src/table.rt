@@ -10,8 +10,7 @@ ghost use Rattle.groups_printed.specs.Table.{ListReady, TableReady};
 
 use crate::line::put_groups;
 use lines::line::{put_answer, put_refused};
-use rules::numbers::Answer;
-use rules::{TABLE_BUDGET, TABLE_CHUNK};
+use rules::{GroupsAnswer, RunAnswer, TABLE_BUDGET, TABLE_CHUNK};
 
 // The answer line, and a line for each value. After 20 there is no valid setup and nothing to say of a value.
 // Rules out: the lines of the values after 20; none of them after 21.
@@ -20,10 +19,8 @@ fn put_table(out: &mut [u8], sizes: &[u8], vars: u32, report: rules::Report, sta
     requires { TableReady sizes.now vars report status.now out.old }
     ensures { Put 0 (groups_table_of_run sizes.now report status.now) out.old result out.new }
 {
-    let answer = report.answer;
-    let number = answer.number();
     let next = put_answer(out, 0, vars, report);
-    if number == 20 {
+    if let RunAnswer::NoModel = report.answer {
         return next;
     }
     put_groups(out, next, sizes, status)
@@ -96,14 +93,16 @@ pub fn put_text(out: &mut [u8], text: &[u8], entries: &mut [i32], sizes: &mut [u
     ensures { Put 0 (groups_table_of text.now) out.old result out.new }
 {
     let reading = groups::read_groups(text, entries, sizes);
-    let answer = reading.answer;
-    let number = answer.number();
-    if number == 0 {
-        let n = reading.entries;
-        let g = reading.groups as usize;
-        let vars = reading.vars;
-        return put_list(out, &entries[..n], &sizes[..g], vars);
+    match reading.answer {
+        GroupsAnswer::Accepted => {
+            let count = reading.groups as usize;
+            put_list(
+                out,
+                &entries[..reading.entries],
+                &sizes[..count],
+                reading.vars,
+            )
+        }
+        answer => put_refused(out, 0, answer),
     }
-    let place = answer.place();
-    put_refused(out, 0, number, place)
 }

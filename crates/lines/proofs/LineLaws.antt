@@ -1,19 +1,22 @@
 -- The laws of lines: field behind field they are those of docs/RULES.md, "The printed table", and a line a variable is a piece.
 --
 --   refused_line_lem, answer_line_lem     the fields as they are put are the line
+--   refused_some      the number of a refused reading is not 0
 --   words_off         what a status above 2 says
 --   line_piece, lines_pieces, line_at     a line a variable, as pieces
 --
 -- Assumes nothing.
 use mathlib.Core.Path.{◌≡◌, refl, sym, ◌∙◌, ap}
+use mathlib.Core.Logic.{◌≢◌}
 use mathlib.Core.List.{List, [], ◌∷◌, ◌++◌, append_assoc}
 use Prim.Native.Nat.{ℕ, zero, suc, pred, ◌+◌, ◌-◌, ◌≤◌}
 use native.Mathlib.Omega.{arith}
 use native.Mathlib.Numerals.{add-one}
 use lib.ListN.{get_or}
+use Rattle.rules.specs.declared.ReadAnswer.{ReadAnswer}
 use Rattle.rules.specs.declared.Report.{Report}
 use Rattle.rules.specs.Lists.{pieces}
-use Rattle.rules.specs.Numbers.{run_number}
+use Rattle.rules.specs.Numbers.{read_number, run_number}
 use Rattle.texts.specs.Plain.{decimal}
 use Rattle.texts.specs.Printed.{answer_word, calls_word, tries_word, forced_word, free_word, open_word, off_word, held_word}
 use Rattle.texts.specs.Printed.{refused_word, place_word, refused_line, answer_line, status_words, status_lines}
@@ -26,6 +29,18 @@ refused_line_lem number place =
     let a = refused_word ++ decimal number in
     sym (append_assoc a (place_word ++ decimal place) (10 ∷ [])) ∙
     ap (λ (xs : List ℕ). xs ++ 10 ∷ []) (sym (append_assoc a place_word (decimal place)))
+
+pub refused_some : (a : ReadAnswer) → a ≢ ReadAnswer.Accepted → read_number a ≢ 0
+refused_some ReadAnswer.Accepted n = absurd (n refl)
+refused_some ReadAnswer.ShortBuffer n = λ e. omega (arith, e)
+refused_some ReadAnswer.LongText n = λ e. omega (arith, e)
+refused_some (ReadAnswer.BadHeader at) n = λ e. omega (arith, e)
+refused_some (ReadAnswer.LargeHeader at) n = λ e. omega (arith, e)
+refused_some (ReadAnswer.BadToken at) n = λ e. omega (arith, e)
+refused_some (ReadAnswer.TokenBehind at) n = λ e. omega (arith, e)
+refused_some (ReadAnswer.TokenOverVars at) n = λ e. omega (arith, e)
+refused_some (ReadAnswer.ManyTokens at) n = λ e. omega (arith, e)
+refused_some (ReadAnswer.ShortText at) n = λ e. omega (arith, e)
 
 -- fields in threes, and all in a row
 fields_row : (a b c d e f x y z w u v n : List ℕ) → ((a ++ b) ++ ((c ++ d) ++ (e ++ f))) ++ ((x ++ y) ++ ((z ++ w) ++ ((u ++ v) ++ n)))

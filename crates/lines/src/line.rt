@@ -10,12 +10,12 @@ use rules::numbers::Answer;
 // The line of a refusal.
 // Rules out: number and place exchanged; a line without LF.
 // Required of: printed::table::put_text, whose room is the whole table's.
-pub fn put_refused(out: &mut [u8], at: usize, number: u32, place: usize) -> usize
-    requires { Room at (refused_line number place) out.old }
-    ensures { Put at (refused_line number place) out.old result out.new }
+pub fn put_refused<A: Answer + Copy>(out: &mut [u8], at: usize, answer: A) -> usize
+    requires { Room at (refused_line (A.number_of answer) (A.place_of answer)) out.old }
+    ensures { Put at (refused_line (A.number_of answer) (A.place_of answer)) out.old result out.new }
 {
-    let behind_number = put_field(out, at, b"refused ", number as usize);
-    let behind_place = put_field(out, behind_number, b" place ", place);
+    let behind_number = put_field(out, at, b"refused ", answer.number() as usize);
+    let behind_place = put_field(out, behind_number, b" place ", answer.place());
     put_byte(out, behind_place, 10)
 }
 

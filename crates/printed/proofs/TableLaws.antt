@@ -1,8 +1,7 @@
 -- The laws of the table: by the number of the answer it is the lines that are put, and what a run or a reading leaves is what it is of.
 --
 --   table_refusal, ran_of         the table of a refused run; any other has run
---   table_room        room for the table is room for its answer line
---   table_first, table_lines      the table after 20, and after 0 and 21
+--   table_lines       the table after 0 and 21
 --   counted_le, status_len        how many variables are counted, and statuses left
 --   run_ready, run_table, run_same, statuses_same     what a run with buffers of just the size leaves, and its table
 --   read_list, read_line          what a reading leaves: an entry list, or the line of its refusal
@@ -13,7 +12,7 @@
 --
 -- Assumes nothing.
 use mathlib.Core.Path.{◌≡◌, refl, sym, ◌∙◌, ap, ap₂}
-use mathlib.Core.Logic.{◌≢◌, inl, inr}
+use mathlib.Core.Logic.{◌≢◌, ◌⊎◌, inl, inr}
 use mathlib.Core.Bool.{Bool, true, false}
 use mathlib.Core.List.{List, [], ◌∷◌, ◌++◌}
 use mathlib.Core.Option.{Option, none, some}
@@ -25,6 +24,7 @@ use lib.ListN.{length, take, length-replicate, drop_of_length-le}
 use lib.Seq.{length-take-le}
 use borrow.Author.Tests.{leb-true, eqb-true, lt-ltb}
 use Rattle.rules.specs.declared.Reading.{Reading}
+use Rattle.rules.specs.declared.ReadAnswer.{ReadAnswer}
 use Rattle.rules.specs.declared.Refusal.{Refusal}
 use Rattle.rules.specs.declared.RunAnswer.{RunAnswer}
 use Rattle.rules.specs.declared.Report.{Report}
@@ -45,9 +45,10 @@ use Rattle.rules.proofs.BufferTheorems.{refused_writes_nothing, length_status_af
 use Rattle.texts.proofs.ReadList as reading
 use Rattle.texts.proofs.PrintedLaws.{table_formed}
 use Rattle.texts.proofs.TableLaws.{length-table_of}
+use Rattle.lines.proofs.LineLaws.{refused_some}
 use Rattle.buffers.specs.Put.{Room, Put}
 use Rattle.printed.specs.Table.{is_refusal, list_given, table_of_list, Sized, Ran, TableReady}
-use Rattle.buffers.proofs.PutLaws.{room_first, room_same}
+use Rattle.buffers.proofs.PutLaws.{room_same}
 use Rattle.buffers.proofs.RoomLaws.{short_count, short_bytes, whole_count, whole_bytes}
 
 -- ---- by the number of the answer
@@ -76,26 +77,10 @@ ran_of (RunAnswer.Refused b) h =
     let (least, most) = refusal_number_lem b in
     absurd (never (rw (lt-ltb 0 (refusal_number b) least, lt-ltb (refusal_number b) 20 most) refl) h)
 
-pub table_first : (a : RunAnswer) (vars : ℕ) (r : Report) (ss hs : List ℕ) → Ran a → run_number a ≡ 20 → table_by a vars r ss hs ≡ answer_line vars r
-table_first a vars r ss hs (inl e) h = absurd (omega (arith, ap run_number e, h))
-table_first a vars r ss hs (inr (inl e)) h = ap (λ (b : RunAnswer). table_by b vars r ss hs) e
-table_first a vars r ss hs (inr (inr e)) h = absurd (omega (arith, ap run_number e, h))
-
-pub table_lines : (a : RunAnswer) (vars : ℕ) (r : Report) (ss hs : List ℕ) → Ran a
-    → run_number a ≢ 20 → table_by a vars r ss hs ≡ answer_line vars r ++ status_lines 1 ss hs
-table_lines a vars r ss hs (inl e) h = ap (λ (b : RunAnswer). table_by b vars r ss hs) e
-table_lines a vars r ss hs (inr (inl e)) h = absurd (h (ap run_number e))
-table_lines a vars r ss hs (inr (inr e)) h = ap (λ (b : RunAnswer). table_by b vars r ss hs) e
-
-pub table_room : {vars : ℕ} {r : Report} {ss hs out : List ℕ} → TableReady vars r ss hs out → Ran r.answer → Room 0 (answer_line vars r) out
-table_room {vars} {r} {ss} {hs} {out} w = go
-  where
-    go : Ran r.answer → Room 0 (answer_line vars r) out
-    go (inl e) =
-        room_first (answer_line vars r) (status_lines 1 ss hs) (room_same (ap (λ (b : RunAnswer). table_by b vars r ss hs) e) w.room)
-    go (inr (inl e)) = room_same (ap (λ (b : RunAnswer). table_by b vars r ss hs) e) w.room
-    go (inr (inr e)) =
-        room_first (answer_line vars r) (status_lines 1 ss hs) (room_same (ap (λ (b : RunAnswer). table_by b vars r ss hs) e) w.room)
+pub table_lines : (vars : ℕ) (r : Report) (ss hs : List ℕ) → (r.answer ≡ RunAnswer.Settled) ⊎ (r.answer ≡ RunAnswer.Stopped)
+    → answer_line vars r ++ status_lines 1 ss hs ≡ table_of_run vars r ss hs
+table_lines vars r ss hs (inl e) = sym (ap (λ (a : RunAnswer). table_by a vars r ss hs) e)
+table_lines vars r ss hs (inr e) = sym (ap (λ (a : RunAnswer). table_by a vars r ss hs) e)
 
 -- ---- the run
 
@@ -249,14 +234,14 @@ pub record ReadList (text : List ℕ) (r : Reading) (after held : List ℤ) : Ty
 
 module _ {text : List ℕ} {before : List ℤ} {r : Reading} {after : List ℤ} (d : Reads text before r after) (z : length before ≡ max_entries)
     (held : List ℤ) where
-  pub read_line : read_number r.answer ≢ 0 → table_of text held ≡ refused_line (read_number r.answer) (read_place r.answer)
+  pub read_line : r.answer ≢ ReadAnswer.Accepted → table_of text held ≡ refused_line (read_number r.answer) (read_place r.answer)
   unfolding table_of
-  read_line h = ap (λ (j : Judged). table_of_judged j held) (reading.read_refused d z h)
+  read_line h = ap (λ (j : Judged). table_of_judged j held) (reading.read_refused d z (refused_some r.answer h))
 
-  pub read_list : read_number r.answer ≡ 0 → ReadList text r after held
+  pub read_list : r.answer ≡ ReadAnswer.Accepted → ReadList text r after held
   unfolding table_of
   read_list h =
-      let w = reading.read_list d z h in
+      let w = reading.read_list d z (ap read_number h) in
       record {
         counted = w.counted;
         runs = rw w.vars_are (table_formed max_entries text w.judged held);
@@ -267,11 +252,11 @@ module _ {text : List ℕ} {before : List ℤ} {r : Reading} {after : List ℤ} 
 -- an accepted text: how long the list is that is handed on, and what is put for it
 
 pub list_long : {text : List ℕ} {before : List ℤ} {r : Reading} {after : List ℤ} → Reads text before r after → length before ≡ max_entries
-    → read_number r.answer ≡ 0 → r.entries ≡ length (take r.entries after)
+    → r.answer ≡ ReadAnswer.Accepted → r.entries ≡ length (take r.entries after)
 list_long d z h = sym (length-take-le _ _ (read_list d z [] h).counted)
 
 pub list_table : (text : List ℕ) (held : List ℤ) {before : List ℤ} {r : Reading} {after : List ℤ} → Reads text before r after → length before ≡ max_entries
-    → read_number r.answer ≡ 0 → table_of text held ≡ table_of_list r.vars (take r.entries after) held
+    → r.answer ≡ ReadAnswer.Accepted → table_of text held ≡ table_of_list r.vars (take r.entries after) held
 list_table text held d z h = (read_list d z held h).table_is
 
 -- ---- the contract

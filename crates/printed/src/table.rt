@@ -4,19 +4,10 @@ ghost use Rattle.rules.specs.Numbers.{max_entries};
 ghost use Rattle.rules.specs.Answer.{given, buffers};
 ghost use Rattle.texts.specs.Printed.{table_of, table_of_run, table_budget, table_chunk};
 ghost use Rattle.buffers.specs.Put.{Put, Room};
-ghost use Rattle.printed.specs.Table.{is_refusal, table_of_list, ListReady, Sized, TableReady, RunPut, TextPut};
+ghost use Rattle.printed.specs.Table.{table_of_list, ListReady, Sized, TableReady, RunPut, TextPut};
 
 use lines::line::{put_answer, put_lines, put_refused};
-use rules::numbers::Answer;
-use rules::{TABLE_BUDGET, TABLE_CHUNK};
-
-// Whether a run's number is that of a refusal.
-// Rules out: 20 taken for a refusal; 13 for none.
-fn is_refusal(number: u32) -> bool
-    ensures { result ≡ is_refusal number }
-{
-    0 < number && number < 20
-}
+use rules::{ReadAnswer, RunAnswer, TABLE_BUDGET, TABLE_CHUNK};
 
 // The answer line, and a line for each variable. After 20 there is no model and nothing to say of a variable; a refused run has one line.
 // Rules out: the lines of the variables after 20; none of them after 21.
@@ -31,17 +22,14 @@ fn put_table(
     requires { TableReady vars report status.now hints.now out.old }
     ensures { Put 0 (table_of_run vars report status.now hints.now) out.old result out.new }
 {
-    let answer = report.answer;
-    let number = answer.number();
-    if is_refusal(number) {
-        let place = answer.place();
-        return put_refused(out, 0, number, place);
+    match report.answer {
+        RunAnswer::Refused(refusal) => put_refused(out, 0, refusal),
+        RunAnswer::NoModel => put_answer(out, 0, vars, report),
+        RunAnswer::Settled | RunAnswer::Stopped => {
+            let next = put_answer(out, 0, vars, report);
+            put_lines(out, next, status, hints)
+        }
     }
-    let next = put_answer(out, 0, vars, report);
-    if number == 20 {
-        return next;
-    }
-    put_lines(out, next, status, hints)
 }
 
 // The run of an entry list with literals held, with buffers of just the size, budget 1,000,000 and chunk limit 16, and its table.
@@ -114,13 +102,8 @@ pub fn put_text(out: &mut [u8], text: &[u8], held: &[i32], entries: &mut [i32]) 
         result entries.new out.new }
 {
     let reading = reader::read(text, entries);
-    let answer = reading.answer;
-    let number = answer.number();
-    if number == 0 {
-        let n = reading.entries;
-        let vars = reading.vars;
-        return put_list(out, &entries[..n], vars, held);
+    match reading.answer {
+        ReadAnswer::Accepted => put_list(out, &entries[..reading.entries], reading.vars, held),
+        answer => put_refused(out, 0, answer),
     }
-    let place = answer.place();
-    put_refused(out, 0, number, place)
 }

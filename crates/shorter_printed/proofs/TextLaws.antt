@@ -16,6 +16,7 @@ use native.Mathlib.Omega.{arith}
 use lib.Dec.{leb}
 use lib.IntN.{ℤ}
 use lib.ListN.{length, take, take-append-drop}
+use Rattle.rules.specs.declared.ReadAnswer.{ReadAnswer}
 use Rattle.rules.specs.declared.Reading.{Reading}
 use Rattle.rules.specs.declared.ShorterReport.{ShorterReport}
 use Rattle.rules.specs.Numbers.{max_text, max_entries, read_number, read_place}
@@ -29,6 +30,7 @@ use Rattle.texts.proofs.GrammarLaws.{accepted_sound}
 use Rattle.texts.proofs.ReadList as reading
 use Rattle.texts.proofs.ShorterTheorems.{shorter_room, shorter_written}
 use Rattle.texts.proofs.ShorterText.{shorter_listed, printed_shorter, length-shorter_text_of}
+use Rattle.lines.proofs.LineLaws.{refused_some}
 use Rattle.buffers.specs.Put.{put_at, Room, Put}
 use Rattle.buffers.proofs.PutLaws.{put_at_front}
 use Rattle.buffers.proofs.RoomLaws.{short_count, short_bytes, whole_count, whole_bytes}
@@ -36,14 +38,15 @@ use Rattle.buffers.proofs.RoomLaws.{short_count, short_bytes, whole_count, whole
 -- ---- a list that was read
 
 module _ {text : List ℕ} {before : List ℤ} {r : Reading} {after : List ℤ} (d : Reads text before r after) (z : length before ≡ max_entries) where
-  module _ (e : read_number r.answer ≡ 0) where
-    pub counted : r.entries ≤ length after
-    counted = (reading.read_list d z e).counted
+  module _ (e : r.answer ≡ ReadAnswer.Accepted) where
+    read : reading.ReadList text r after
+    read = reading.read_list d z (ap read_number e)
 
-    said : Dimacs text r.vars (reading.read_list d z e).sizes.clauses (take r.entries after)
-    said =
-        let w = reading.read_list d z e in
-        subst (λ (v : ℕ). Dimacs text v w.sizes.clauses (take r.entries after)) (sym w.vars_are) (accepted_sound max_entries text w.judged)
+    pub counted : r.entries ≤ length after
+    counted = read.counted
+
+    said : Dimacs text r.vars read.sizes.clauses (take r.entries after)
+    said = subst (λ (v : ℕ). Dimacs text v read.sizes.clauses (take r.entries after)) (sym read.vars_are) (accepted_sound max_entries text read.judged)
 
     -- what is written for it is put
     pub put_shorter : {out left : List ℕ} {result : ShorterReport} → max_text ≤ length out
@@ -71,9 +74,9 @@ module _ {text : List ℕ} {before : List ℤ} {r : Reading} {after : List ℤ} 
             sym (put_at_front out (shorter_text (printed_task r.vars (take r.entries after))) (shorter_room g listed))
 
   -- the line of a refused text
-  pub put_line : read_number r.answer ≢ 0 → shorter_text_of text ≡ refused_line (read_number r.answer) (read_place r.answer)
+  pub put_line : r.answer ≢ ReadAnswer.Accepted → shorter_text_of text ≡ refused_line (read_number r.answer) (read_place r.answer)
   unfolding shorter_text_of
-  put_line h = ap shorter_of_judged (reading.read_refused d z h)
+  put_line h = ap shorter_of_judged (reading.read_refused d z (refused_some r.answer h))
 
 -- ---- the contract
 

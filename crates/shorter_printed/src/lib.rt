@@ -7,8 +7,7 @@ ghost use Rattle.texts.specs.ShorterPrinted.{PrintsShorter};
 ghost use Rattle.shorter_printed.specs.Printed.{TextPut};
 
 use lines::line::put_refused;
-use rules::numbers::Answer;
-use rules::{TABLE_BUDGET, TABLE_CHUNK};
+use rules::{ReadAnswer, TABLE_BUDGET, TABLE_CHUNK};
 
 // The shorter file of a text, or the line of its refusal.
 // Rules out: a file for a refused text; the line of another refusal.
@@ -18,16 +17,14 @@ fn put_text(out: &mut [u8], text: &[u8], entries: &mut [i32]) -> usize
     ensures { TextPut text.now entries.old out.old result entries.new out.new }
 {
     let reading = reader::read(text, entries);
-    let answer = reading.answer;
-    let number = answer.number();
-    if number == 0 {
-        let n = reading.entries;
-        let vars = reading.vars;
-        let report = shorter::shorter(&entries[..n], vars, TABLE_BUDGET, TABLE_CHUNK, out);
-        return report.length;
+    match reading.answer {
+        ReadAnswer::Accepted => {
+            let list = &entries[..reading.entries];
+            let report = shorter::shorter(list, reading.vars, TABLE_BUDGET, TABLE_CHUNK, out);
+            report.length
+        }
+        answer => put_refused(out, 0, answer),
     }
-    let place = answer.place();
-    put_refused(out, 0, number, place)
 }
 
 // Puts the shorter file of a text at the start of a buffer and returns how many bytes it has. None is longer than 32,768 bytes; in a

@@ -1,12 +1,13 @@
 -- The laws of the answer: what is asked with buffers of just the size, what a reading leaves, and the contract.
 --
 --   asked_text        what is printed does not depend on what the buffers held
---   list_text, list_ready, refused_text     what a reading leaves: an entry list, or a refusal
+--   read_list, list_text, list_ready, read_line     what a reading leaves: an entry list, or a refusal
 --   prints_short, whole_room, prints_answer     the contract, in a short buffer and in others
 --   prints_le         how many bytes are put at most
 --
 -- Assumes nothing.
 use mathlib.Core.Path.{◌≡◌, refl, sym, ◌∙◌, ap}
+use mathlib.Core.Logic.{◌≢◌}
 use mathlib.Core.Bool.{Bool, true, false}
 use mathlib.Core.List.{List, ◌++◌}
 use mathlib.Core.Option.{Option, none, some}
@@ -22,7 +23,7 @@ use Rattle.rules.specs.declared.WhyReport.{WhyReport}
 use Rattle.rules.specs.Lists.{first_of}
 use Rattle.rules.specs.Numbers.{max_clauses, max_entries, read_number, read_place}
 use Rattle.rules.specs.Meaning.{clauses}
-use Rattle.texts.specs.Reading.{refused, judge}
+use Rattle.texts.specs.Reading.{Reads}
 use Rattle.texts.specs.Grammar.{Dimacs}
 use Rattle.texts.specs.Printed.{refused_line, count_if_room}
 use Rattle.rules.specs.Why.{WhyGiven, why_given, Question, question_of, no_marks, why, why_rules, why_refusal}
@@ -30,8 +31,10 @@ use Rattle.rules.specs.Why.{why_report_if, why_report_of, marks_if, marks_after,
 use Rattle.texts.specs.WhyPrinted.{why_text_of_report, why_budget, why_asked, why_text_of_list, why_text_of_judged, why_text_of, max_why, PrintsWhy}
 use Rattle.texts.proofs.GrammarLaws.{accepted_sound}
 use Rattle.texts.proofs.PlainLaws.{entries_of-clauses}
+use Rattle.texts.proofs.ReadList as reading
 use Rattle.texts.proofs.ReadList.{ReadList}
 use Rattle.texts.proofs.WhyText.{length-why_text_of}
+use Rattle.lines.proofs.LineLaws.{refused_some}
 use Rattle.buffers.specs.Put.{Room, Put}
 use Rattle.buffers.proofs.PutLaws.{room_same}
 use Rattle.buffers.proofs.RoomLaws.{short_count, short_bytes, whole_count, whole_bytes}
@@ -99,10 +102,13 @@ module _ {text : List ℕ} {r : Reading} {after : List ℤ} (w : ReadList text r
         room = room_same list_text m;
       }
 
-pub refused_text : (text : List ℕ) (l : ℤ) {a : ReadAnswer} → judge max_entries text ≡ refused a
-    → why_text_of text l ≡ refused_line (read_number a) (read_place a)
-unfolding why_text_of
-refused_text text l e = ap (λ j. why_text_of_judged j l) e
+module _ {text : List ℕ} {before : List ℤ} {r : Reading} {after : List ℤ} (d : Reads text before r after) (z : length before ≡ max_entries) where
+  pub read_list : r.answer ≡ ReadAnswer.Accepted → ReadList text r after
+  read_list h = reading.read_list d z (ap read_number h)
+
+  pub read_line : (l : ℤ) → r.answer ≢ ReadAnswer.Accepted → why_text_of text l ≡ refused_line (read_number r.answer) (read_place r.answer)
+  unfolding why_text_of
+  read_line l h = ap (λ j. why_text_of_judged j l) (reading.read_refused d z (refused_some r.answer h))
 
 -- ---- the contract
 

@@ -12,8 +12,7 @@ use crate::clauses::put_reason;
 use crate::line::put_first;
 use lines::line::put_refused;
 use lines::model::put_model;
-use rules::numbers::Answer;
-use rules::{Lit, WHY_BUDGET, WhyAnswer, WhyReport};
+use rules::{Lit, ReadAnswer, WHY_BUDGET, WhyAnswer, WhyReport};
 
 // After 0: the clauses that are kept, with room for the starts of all.
 // Rules out: all clauses; none of them.
@@ -51,17 +50,11 @@ fn put_answer(
     ensures { Put 0 (why_text_of_report report (clauses entries.now) marks.now values.now)
         out.old result out.new }
 {
-    let answer = report.answer;
-    match answer {
+    match report.answer {
         WhyAnswer::Kept => put_kept(out, entries, report, marks),
-        WhyAnswer::NoModel => put_first(out, 0, report, 0),
-        WhyAnswer::Stopped => put_first(out, 0, report, 0),
+        WhyAnswer::NoModel | WhyAnswer::Stopped => put_first(out, 0, report, 0),
         WhyAnswer::NotForced => put_false(out, report, values),
-        WhyAnswer::Refused(refusal) => {
-            let number = refusal.number();
-            let place = refusal.place();
-            put_refused(out, 0, number, place)
-        }
+        WhyAnswer::Refused(refusal) => put_refused(out, 0, refusal),
     }
 }
 
@@ -105,13 +98,8 @@ pub fn put_text(out: &mut [u8], text: &[u8], literal: Lit, entries: &mut [i32]) 
     ensures { TextPut text.now literal.0 entries.old out.old result entries.new out.new }
 {
     let reading = reader::read(text, entries);
-    let answer = reading.answer;
-    let number = answer.number();
-    if number == 0 {
-        let n = reading.entries;
-        let vars = reading.vars;
-        return put_list(out, &entries[..n], vars, literal);
+    match reading.answer {
+        ReadAnswer::Accepted => put_list(out, &entries[..reading.entries], reading.vars, literal),
+        answer => put_refused(out, 0, answer),
     }
-    let place = answer.place();
-    put_refused(out, 0, number, place)
 }

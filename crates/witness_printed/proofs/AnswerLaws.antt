@@ -3,14 +3,14 @@
 --   length_bits, bit_at     the bits of a list of literals
 --   asked_text        what is printed does not depend on what the buffers held
 --   bits_same         the bits behind the same answer
---   list_text, list_ready, refused_text     what a reading leaves: an entry list, or a refusal
+--   read_list, list_text, list_ready, read_line     what a reading leaves: an entry list, or a refusal
 --   prints_short, whole_room, prints_answer     the contract, in a short buffer and in others
 --   prints_le         how many bytes are put at most
 --
 -- Assumes nothing.
 use mathlib.Core.Path.{◌≡◌, refl, sym, ◌∙◌, ap}
 use mathlib.Core.Bool.{Bool, true, false}
-use mathlib.Core.Logic.{◌⊎◌, inl, inr}
+use mathlib.Core.Logic.{◌≢◌, ◌⊎◌, inl, inr}
 use mathlib.Core.List.{List, [], ◌∷◌, ◌++◌, map, append-nil}
 use mathlib.Core.Option.{Option, none, some}
 use Prim.Native.Nat.{ℕ, zero, suc, pred, ◌≤◌, ◌<◌}
@@ -26,7 +26,7 @@ use Rattle.rules.specs.declared.Report.{Report}
 use Rattle.rules.specs.Lists.{first_of}
 use Rattle.rules.specs.Numbers.{max_entries, read_number, read_place}
 use Rattle.rules.specs.Meaning.{Values}
-use Rattle.texts.specs.Reading.{refused, judge}
+use Rattle.texts.specs.Reading.{Reads}
 use Rattle.texts.specs.Grammar.{Dimacs}
 use Rattle.rules.specs.Run.{Task, Progress, run}
 use Rattle.rules.specs.Answer.{taking_rules, out_of_limits, report_if}
@@ -39,9 +39,11 @@ use Rattle.rules.specs.Witness.{first_after, witness_after, Witnesses, lent_for}
 use Rattle.texts.specs.WitnessPrinted.{literal_bit, bits_of, witness_asked, witness_text_if, witness_text_of_asked, witness_text_of_judged, witness_text_of}
 use Rattle.texts.specs.WitnessPrinted.{max_witness, PrintsWitness}
 use Rattle.texts.proofs.GrammarLaws.{accepted_sound}
+use Rattle.texts.proofs.ReadList as reading
 use Rattle.texts.proofs.ReadList.{ReadList}
 use Rattle.rules.proofs.RunTheorems.{run_answer_lem}
 use Rattle.texts.proofs.WitnessText.{bits_literals, witness_listed, length-witness_text_of}
+use Rattle.lines.proofs.LineLaws.{refused_some}
 use Rattle.buffers.specs.Put.{Room, Put}
 use Rattle.buffers.proofs.PutLaws.{room_same}
 use Rattle.buffers.proofs.RoomLaws.{short_count, short_bytes, whole_count, whole_bytes}
@@ -135,10 +137,13 @@ module _ {text : List ℕ} {r : Reading} {after : List ℤ} (w : ReadList text r
       let d : Dimacs text w.sizes.vars w.sizes.clauses (take r.entries after) = accepted_sound max_entries text w.judged in
       record { listed = rw w.vars_are (witness_listed d v); room = room_same list_text m }
 
-pub refused_text : (text : List ℕ) (v : ℕ) {a : ReadAnswer} → judge max_entries text ≡ refused a
-    → witness_text_of text v ≡ refused_line (read_number a) (read_place a)
-unfolding witness_text_of
-refused_text text v e = ap (λ j. witness_text_of_judged j v) e
+module _ {text : List ℕ} {before : List ℤ} {r : Reading} {after : List ℤ} (d : Reads text before r after) (z : length before ≡ max_entries) where
+  pub read_list : r.answer ≡ ReadAnswer.Accepted → ReadList text r after
+  read_list h = reading.read_list d z (ap read_number h)
+
+  pub read_line : (v : ℕ) → r.answer ≢ ReadAnswer.Accepted → witness_text_of text v ≡ refused_line (read_number r.answer) (read_place r.answer)
+  unfolding witness_text_of
+  read_line v h = ap (λ j. witness_text_of_judged j v) (reading.read_refused d z (refused_some r.answer h))
 
 -- ---- the contract
 

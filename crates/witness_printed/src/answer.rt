@@ -9,8 +9,7 @@ ghost use Rattle.witness_printed.specs.Pair.{AnswerReady, AnswerPut, ListReady, 
 
 use crate::pair::put_pair;
 use lines::line::put_refused;
-use rules::numbers::Answer;
-use rules::{Report, RunAnswer, TABLE_BUDGET, TABLE_CHUNK};
+use rules::{ReadAnswer, Report, RunAnswer, TABLE_BUDGET, TABLE_CHUNK};
 
 // What is printed for an answer: the refusal alone if it is one, else both models.
 // Rules out: models where the variable is not free; the line of another refusal.
@@ -26,16 +25,11 @@ fn put_answer(
     ensures { AnswerPut report first.now witness.now bits.old out.old
         result bits.new out.new }
 {
-    let answer = report.answer;
-    match answer {
-        RunAnswer::Settled => put_pair(out, first, witness, bits),
-        RunAnswer::NoModel => put_pair(out, first, witness, bits),
-        RunAnswer::Stopped => put_pair(out, first, witness, bits),
-        RunAnswer::Refused(refusal) => {
-            let number = refusal.number();
-            let place = refusal.place();
-            put_refused(out, 0, number, place)
+    match report.answer {
+        RunAnswer::Settled | RunAnswer::NoModel | RunAnswer::Stopped => {
+            put_pair(out, first, witness, bits)
         }
+        RunAnswer::Refused(refusal) => put_refused(out, 0, refusal),
     }
 }
 
@@ -98,13 +92,8 @@ pub fn put_text(out: &mut [u8], text: &[u8], variable: u32, entries: &mut [i32])
     ensures { TextPut text.now variable entries.old out.old result entries.new out.new }
 {
     let reading = reader::read(text, entries);
-    let answer = reading.answer;
-    let number = answer.number();
-    if number == 0 {
-        let n = reading.entries;
-        let vars = reading.vars;
-        return put_list(out, &entries[..n], vars, variable);
+    match reading.answer {
+        ReadAnswer::Accepted => put_list(out, &entries[..reading.entries], reading.vars, variable),
+        answer => put_refused(out, 0, answer),
     }
-    let place = answer.place();
-    put_refused(out, 0, number, place)
 }

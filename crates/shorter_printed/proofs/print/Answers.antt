@@ -1,12 +1,7 @@
 -- `print` meets its contract: nothing in a short buffer, the shorter file in others. Assumes nothing.
-use mathlib.Core.Path.{refl}
 use native.Mathlib.Omega.{arith}
 use Rattle.shorter_printed.proofs.TextLaws.{prints_text}
 use Rattle.shorter_printed.proofs.print.Goals as goal
-
-pub put_text-requires : goal.put_text-requires
-put_text-requires c =
-    (omega arith, refl)
 
 pub returns : goal.returns
 returns c =

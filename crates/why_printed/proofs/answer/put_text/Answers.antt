@@ -1,62 +1,38 @@
 -- `answer::put_text` meets its contract: what the reading left is an entry list, or a refusal. Assumes nothing.
-use mathlib.Core.Path.{◌≡◌, sym, ◌∙◌, ap}
-use Prim.Native.Nat.{ℕ}
-use native.Mathlib.Omega.{arith}
+use mathlib.Core.Path.{sym}
 use lib.Seq.{length-take-le}
-use Rattle.rules.specs.Numbers.{read_number}
-use Rattle.texts.specs.Printed.{refused_line}
-use Rattle.texts.specs.WhyPrinted.{why_text_of}
-use Rattle.texts.proofs.ReadList.{ReadList, read_list, read_refused}
 use Rattle.buffers.proofs.PutLaws.{room_same, put_same}
-use Rattle.why_printed.proofs.AnswerLaws.{list_text, list_ready, refused_text}
+use Rattle.why_printed.proofs.AnswerLaws.{read_list, list_text, list_ready, read_line}
 use Rattle.why_printed.proofs.answer.put_text.Goals as goal
 
 pub slice_bounds-put_list-end : goal.slice_bounds-put_list-end
-slice_bounds-put_list-end c =
-    let listed : ReadList c.args.text.now c.read-reading.result c.read-reading.new.entries =
-    read_list c.read-reading.ensures c.requires.1 (sym c.number-number.ensures ∙ c.if-number-eq0.true) in
-    listed.counted
+slice_bounds-put_list-end c = (read_list c.read-reading.ensures c.requires.1 c.in-Accepted.is).counted
 
-pub slice_bounds-put_list-end-then-number-eq0 : goal.slice_bounds-put_list-end-then-number-eq0
-slice_bounds-put_list-end-then-number-eq0 c =
-    let listed : ReadList c.args.text.now c.read-reading.result c.read-reading.new.entries =
-    read_list c.read-reading.ensures c.requires.1 (sym c.number-number.ensures ∙ c.if-number-eq0.true) in
-    sym (length-take-le _ _ listed.counted)
+pub slice_bounds-put_list-end-in-Accepted : goal.slice_bounds-put_list-end-in-Accepted
+slice_bounds-put_list-end-in-Accepted c =
+    sym (length-take-le _ _ (read_list c.read-reading.ensures c.requires.1 c.in-Accepted.is).counted)
 
 pub put_list-requires : goal.put_list-requires
-put_list-requires c =
-    let listed : ReadList c.args.text.now c.read-reading.result c.read-reading.new.entries =
-    read_list c.read-reading.ensures c.requires.1 (sym c.number-number.ensures ∙ c.if-number-eq0.true) in
-    list_ready listed c.args.literal.0 c.requires.0
+put_list-requires c = list_ready (read_list c.read-reading.ensures c.requires.1 c.in-Accepted.is) c.args.literal.0 c.requires.0
 
-pub returns-then-number-eq0 : goal.returns-then-number-eq0
-returns-then-number-eq0 c =
-    let listed : ReadList c.args.text.now c.read-reading.result c.read-reading.new.entries =
-    read_list c.read-reading.ensures c.requires.1 (sym c.number-number.ensures ∙ c.if-number-eq0.true) in
+pub returns-in-Accepted : goal.returns-in-Accepted
+returns-in-Accepted c =
     record {
-      put = put_same (sym (list_text listed c.args.literal.0)) c.put_list.ensures;
+      put =
+          put_same (sym (list_text (read_list c.read-reading.ensures c.requires.1 c.in-Accepted.is) c.args.literal.0))
+          c.put_list.ensures;
       entries_are = c.read-reading.ensures.after_is;
     }
 
 pub put_refused-requires : goal.put_refused-requires
 put_refused-requires c =
-    let line : refused_line c.number-number.result c.place-place.result ≡ why_text_of c.args.text.now c.args.literal.0 =
-    ap (λ (n : ℕ). refused_line n c.place-place.result) c.number-number.ensures ∙
-    ap (λ (n : ℕ). refused_line (read_number c.read-reading.result.answer) n) c.place-place.ensures ∙
-    sym
-    (refused_text c.args.text.now c.args.literal.0
-    (read_refused c.read-reading.ensures c.requires.1 (λ e. omega (arith, c.number-number.ensures, c.if-number-eq0.false, e)))) in
-    room_same (sym line) c.requires.0
+    room_same (read_line c.read-reading.ensures c.requires.1 c.args.literal.0 c.in_default.not-Accepted) c.requires.0
 
-pub returns : goal.returns
-returns c =
-    let line : refused_line c.number-number.result c.place-place.result ≡ why_text_of c.args.text.now c.args.literal.0 =
-    ap (λ (n : ℕ). refused_line n c.place-place.result) c.number-number.ensures ∙
-    ap (λ (n : ℕ). refused_line (read_number c.read-reading.result.answer) n) c.place-place.ensures ∙
-    sym
-    (refused_text c.args.text.now c.args.literal.0
-    (read_refused c.read-reading.ensures c.requires.1 (λ e. omega (arith, c.number-number.ensures, c.if-number-eq0.false, e)))) in
+pub returns-in_default : goal.returns-in_default
+returns-in_default c =
     record {
-      put = put_same line c.put_refused.ensures;
+      put =
+          put_same (sym (read_line c.read-reading.ensures c.requires.1 c.args.literal.0 c.in_default.not-Accepted))
+          c.put_refused.ensures;
       entries_are = c.read-reading.ensures.after_is;
     }
