@@ -22,8 +22,7 @@ use Rattle.rules.proofs.RoundsLaws.{rounds-next}
 use Rattle.formula.specs.Starts.{clauses_with, call_clauses}
 use Rattle.std.specs.Prelude.{Option, Some, None}
 use Rattle.board.specs.declared.close.Closing.TheVariants.{Clash, Closed}
-use Rattle.board.specs.Boards.{SameRoom, Shows}
-use Rattle.board.specs.declared.parts.Board.{Board}
+use Rattle.board.specs.Boards.{Shows}
 use Rattle.board.specs.Trails.{Leads}
 use Rattle.board.specs.Closings.{BoardOver, round_of, RoundDone, CloseDone}
 use Rattle.board.proofs.TrailLaws.{leads_refl, leads_trans}
@@ -36,9 +35,6 @@ pub record Closings (es : List ℤ) (con : Clause) (lists holders marks : List �
   pub few : n + unsets vs ≤ unsets from
   pub shows : Shows (clauses_with es con) lists holders marks vs keys hot trail
   pub leads : Leads trail-from from trail vs
-  pub same_keys : length keys ≡ length keys_from
-  pub same_hot : length hot ≡ length hot-from
-  pub same_trail : length trail ≡ length trail-from
 
 module _ {es : List ℤ} {starts : List ℕ} {con : Clause} {lists holders marks : List ℕ} {from : Values} {keys_from hot-from trail-from : List ℕ} {total : ℕ}
     (a : BoardOver es starts con lists holders marks from keys_from hot-from trail-from total) where
@@ -51,9 +47,6 @@ module _ {es : List ℤ} {starts : List ℕ} {con : Clause} {lists holders marks
         few = omega arith;
         shows = a.shows;
         leads = leads_refl;
-        same_keys = refl;
-        same_hot = refl;
-        same_trail = refl;
       }
 
   module _ {n : ℕ} {vs : Values} {keys hot trail : List ℕ}
@@ -97,10 +90,10 @@ module _ {es : List ℤ} {starts : List ℕ} {con : Clause} {lists holders marks
       closings_falls zero e z = absurd (z refl)
       closings_falls (suc k) e z = omega (arith, (went e).counted)
 
-      pub closings_again : (k : ℕ) → r ≡ Some k → k ≢ 0 → length keys2 ≡ length keys → length hot2 ≡ length hot → length trail2 ≡ length trail
+      pub closings_again : (k : ℕ) → r ≡ Some k → k ≢ 0
           → Closings es con lists holders marks from keys_from hot-from trail-from total (n + 1) vs2 keys2 hot2 trail2
-      closings_again zero e z p q s = absurd (z refl)
-      closings_again (suc k) e z p q s =
+      closings_again zero e z = absurd (z refl)
+      closings_again (suc k) e z =
           record {
             len = (went e).len ∙ w.len;
             same = sym (after_round (ended e));
@@ -108,16 +101,4 @@ module _ {es : List ℤ} {starts : List ℕ} {con : Clause} {lists holders marks
             few = omega (arith, w.few, (went e).counted);
             shows = d.shows;
             leads = leads_on;
-            same_keys = p ∙ w.same_keys;
-            same_hot = q ∙ w.same_hot;
-            same_trail = s ∙ w.same_trail;
           }
-
--- ---- what is lent keeps its length
-
-pub closings_kept : {es : List ℤ} {con : Clause} {lists holders marks : List ℕ} {before now after : Board} {total n : ℕ}
-    → Closings es con lists holders marks before.values.now before.keys.now before.hot.now before.trail.now total n
-    now.values.now now.keys.now now.hot.now now.trail.now
-    → SameRoom now after → SameRoom before after
-closings_kept w s =
-    record { values = s.values ∙ w.len; keys = s.keys ∙ w.same_keys; hot = s.hot ∙ w.same_hot; trail = s.trail ∙ w.same_trail }

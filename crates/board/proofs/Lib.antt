@@ -20,3 +20,4 @@ pub mod HotLaws
 pub mod FlipLaws
 pub mod VisitLaws
 pub mod CloseLaws
+pub mod SameLaws

@@ -91,9 +91,6 @@ module _ {lists holders marks : List ℕ} {vs : Values} {keys hot trail : List �
 pub record Showing (wanted : Values) (lists holders marks : List ℕ) (from : Values) (keys_from hot-from trail-from : List ℕ) (i : ℕ) (vs : Values)
     (keys hot trail : List ℕ) : Type 0 where
   pub filled : Filled wanted i vs
-  pub same_keys : length keys ≡ length keys_from
-  pub same_hot : length hot ≡ length hot-from
-  pub same_trail : length trail ≡ length trail-from
   pub F : List Clause
   pub shown : Shows F lists holders marks vs keys hot trail
   pub agrees : Agrees wanted vs
@@ -106,9 +103,6 @@ module _ {wanted : Values} {lists holders marks : List ℕ} {from : Values} {key
   showing_start =
       record {
         filled = filled_start wanted from a.len;
-        same_keys = refl;
-        same_hot = refl;
-        same_trail = refl;
         F = a.F;
         shown = a.shows;
         agrees = a.agrees;
@@ -132,14 +126,10 @@ module _ {wanted : Values} {lists holders marks : List ℕ} {from : Values} {key
         }
 
     pub showing_step : {vs2 : Values} {keys2 hot2 trail2 : List ℕ} → OneShown lists holders marks vs keys hot trail i (get_or wanted i 0) vs2 keys2 hot2 trail2
-        → length keys2 ≡ length keys → length hot2 ≡ length hot → length trail2 ≡ length trail
         → Showing wanted lists holders marks from keys_from hot-from trail-from (i + 1) vs2 keys2 hot2 trail2
-    showing_step {vs2} d p q s =
+    showing_step {vs2} d =
         record {
           filled = rw d.values_are (filled_step 0 (get_or wanted i 0) w.filled (omega (arith, w.filled.len)) refl);
-          same_keys = p ∙ w.same_keys;
-          same_hot = q ∙ w.same_hot;
-          same_trail = s ∙ w.same_trail;
           F = w.F;
           shown = d.shows w.F w.shown;
           agrees = rw d.values_are (record { agrees = λ j n. go j n (set_cases vs i (get_or wanted i 0) j) });

@@ -5,7 +5,7 @@
 --   Undoing, undoing_start, undo_asks, undoing_step, undoing_done     what is left of the trail, as an invariant
 --
 -- Assumes nothing.
-use mathlib.Core.Path.{◌≡◌, refl, sym, ◌∙◌, ap}
+use mathlib.Core.Path.{◌≡◌, sym, ◌∙◌, ap}
 use mathlib.Core.Bool.{true}
 use mathlib.Core.List.{List}
 use Prim.Native.Nat.{ℕ, suc, ◌+◌, ◌-◌, ◌≤◌, ◌<◌}
@@ -101,10 +101,6 @@ over h (more k us e b u s q t) = absurd (omega (arith, way_le t))
 
 pub record Undoing (lists holders marks : List ℕ) (from : Values) (keys_from hot-from trail-from : List ℕ) (to : ℕ) (vs : Values)
     (keys hot trail : List ℕ) : Type 0 where
-  pub same_values : length vs ≡ length from
-  pub same_keys : length keys ≡ length keys_from
-  pub same_hot : length hot ≡ length hot-from
-  pub same_trail : length trail ≡ length trail-from
   pub F : List Clause
   pub shown : Shows F lists holders marks vs keys hot trail
   pub base : Values
@@ -117,10 +113,6 @@ pub undoing_start : {lists holders marks : List ℕ} {from : Values} {keys_from 
     → Undoing lists holders marks from keys_from hot-from trail-from to from keys_from hot-from trail-from
 undoing_start a =
     record {
-      same_values = refl;
-      same_keys = refl;
-      same_hot = refl;
-      same_trail = refl;
       F = a.F;
       shown = a.shows;
       base = a.base;
@@ -150,14 +142,9 @@ module _ {lists holders marks : List ℕ} {from : Values} {keys_from hot-from tr
         (λ j a l. ap (λ (xs : List ℕ). get_or xs j 0) d.trail_is ∙ get_or-set_other trail 0 j (trail_len trail - 1) 0 (omega arith))
         (last (omega arith) t).before)
 
-    pub undoing_step : length vs2 ≡ length vs → length keys2 ≡ length keys → length hot2 ≡ length hot → length trail2 ≡ length trail
-        → Undoing lists holders marks from keys_from hot-from trail-from to vs2 keys2 hot2 trail2
-    undoing_step p q r s =
+    pub undoing_step : Undoing lists holders marks from keys_from hot-from trail-from to vs2 keys2 hot2 trail2
+    undoing_step =
         record {
-          same_values = p ∙ w.same_values;
-          same_keys = q ∙ w.same_keys;
-          same_hot = r ∙ w.same_hot;
-          same_trail = s ∙ w.same_trail;
           F = w.F;
           shown = d.shows w.F w.shown;
           base = w.base;

@@ -31,8 +31,7 @@ use Rattle.std.specs.Prelude.{Some, None}
 use Rattle.formula.proofs.ClauseLaws.{length-call_clauses, get_d_call_clauses}
 use Rattle.board.specs.Keys.{key_of}
 use Rattle.board.specs.Blocks.{NextHot}
-use Rattle.board.specs.Boards.{SameRoom, Shows, Settable, SetDone}
-use Rattle.board.specs.declared.parts.Board.{Board}
+use Rattle.board.specs.Boards.{Shows, Settable, SetDone}
 use Rattle.board.specs.Trails.{Leads}
 use Rattle.board.specs.Closings.{BoardOver}
 use Rattle.board.proofs.HotLaws.{hot_false, hot_unit, hot_some, get_d_keys, rounding_cold}
@@ -44,9 +43,6 @@ pub record Visiting (es : List ℤ) (con : Clause) (lists holders marks : List �
   pub rounding : Rounding (call_clauses es con total) from n vs k
   pub shows : Shows (clauses_with es con) lists holders marks vs keys hot trail
   pub leads : Leads trail-from from trail vs
-  pub same_keys : length keys ≡ length keys_from
-  pub same_hot : length hot ≡ length hot-from
-  pub same_trail : length trail ≡ length trail-from
 
 length_with : (es : List ℤ) (con : Clause) → length (clauses_with es con) ≡ suc (length (clauses es))
 unfolding clauses_with
@@ -68,9 +64,6 @@ module _ {es : List ℤ} {starts : List ℕ} {con : Clause} {lists holders marks
         rounding = rounding_start (call_clauses es con total) from;
         shows = a.shows;
         leads = leads_refl;
-        same_keys = refl;
-        same_hot = refl;
-        same_trail = refl;
       }
 
   module _ {n : ℕ} {vs : Values} {k : ℕ} {keys hot trail : List ℕ}
@@ -137,25 +130,13 @@ module _ {es : List ℤ} {starts : List ℕ} {con : Clause} {lists holders marks
                   record { shows = w.shows; literal = unit_up_to (length vs) vs cl l hot_up_to unit; unset = m.unset }
 
               pub visiting_unit : {vs2 : Values} {keys2 hot2 trail2 : List ℕ} → SetDone lists holders marks vs keys hot trail l.0 vs2 keys2 hot2 trail2
-                  → length keys2 ≡ length keys → length hot2 ≡ length hot → length trail2 ≡ length trail
                   → Visiting es con lists holders marks from keys_from hot-from trail-from total (r + 1) vs2 (k + 1) keys2 hot2 trail2
-              visiting_unit d p q s =
+              visiting_unit d =
                   record {
                     rounding = rw d.values_are (rounding_unit (looked here) l unit);
                     shows = d.shows (clauses_with es con) w.shows;
                     leads = leads_trans w.leads (leads_set settable_unit d.values_are d.trail_is);
-                    same_keys = p ∙ w.same_keys;
-                    same_hot = q ∙ w.same_hot;
-                    same_trail = s ∙ w.same_trail;
                   }
 
     pub visiting_done : total ≤ n → round (call_clauses es con total) (under_way from 0) ≡ under_way vs k
     visiting_done h = rounding_done (call_clauses es con total) from n vs k (omega (arith, length_call)) w.rounding
-
--- ---- what is lent keeps its length
-
-pub visiting_kept : {es : List ℤ} {con : Clause} {lists holders marks : List ℕ} {before after : Board} {total n k : ℕ}
-    → Visiting es con lists holders marks before.values.now before.keys.now before.hot.now before.trail.now total n
-    after.values.now k after.keys.now after.hot.now after.trail.now
-    → SameRoom before after
-visiting_kept w = record { values = w.rounding.len; keys = w.same_keys; hot = w.same_hot; trail = w.same_trail }

@@ -45,13 +45,18 @@ pub record Shows (F : List Clause) (lists holders marks : List ℕ) (vs : Values
   pub counted : trail_len trail + unsets vs ≡ length vs
   pub room : length vs < length trail
 
--- ---- the parts of a board that is lent keep their lengths
+-- ---- the parts of a board that is lent keep their lengths, and stay the same references, so that who made the board of them learns what
+-- became of them
 
 pub record SameRoom (before after : Board) : Type 0 where
   pub values : length after.values.now ≡ length before.values.now
   pub keys : length after.keys.now ≡ length before.keys.now
   pub hot : length after.hot.now ≡ length before.hot.now
   pub trail : length after.trail.now ≡ length before.trail.now
+  pub values_stay : after.values.ghost_name ≡ before.values.ghost_name
+  pub keys_stay : after.keys.ghost_name ≡ before.keys.ghost_name
+  pub hot_stay : after.hot.ghost_name ≡ before.hot.ghost_name
+  pub trail_stay : after.trail.ghost_name ≡ before.trail.ghost_name
 
 -- ---- setting a literal
 

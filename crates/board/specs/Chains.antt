@@ -27,11 +27,14 @@ pub data Links (k c m : ℕ) (heads nexts owners : List ℕ) : ℕ → List ℕ 
   other : (j : ℕ) → get_or heads k 0 ≡ suc j → get_or owners j 0 ≢ c
       → Links k c m heads nexts owners (m + 1) (set heads k (m + 1)) (set nexts m (get_or heads k 0)) (set owners m c)
 
--- the parts of chains that are lent keep their lengths
+-- the parts of chains that are lent keep their lengths, and stay the same references
 pub record SameChains (before after : Chains) : Type 0 where
   pub heads : length after.heads.now ≡ length before.heads.now
   pub nexts : length after.nexts.now ≡ length before.nexts.now
   pub owners : length after.owners.now ≡ length before.owners.now
+  pub heads_stay : after.heads.ghost_name ≡ before.heads.ghost_name
+  pub nexts_stay : after.nexts.ghost_name ≡ before.nexts.ghost_name
+  pub owners_stay : after.owners.ghost_name ≡ before.owners.ghost_name
 
 pub record LinkAsked (k m : ℕ) (heads nexts owners : List ℕ) : Type 0 where
   pub head : k < length heads

@@ -1,7 +1,7 @@
 // The calls of a run after the first (docs/RULES.md, "Run"): while candidates remain, a call on the formula, the literals forced so far,
 // and that one of the chunk is false.
 ghost use Rattle.std.specs.Prelude.{length};
-ghost use Rattle.search.specs.Rooms.{BoardKept};
+ghost use Rattle.search.specs.Rooms.{BoardKept, SameRooms};
 ghost use Rattle.calls.specs.Next.{ChunkOver, ChunkCalled, CallDue, CalledFrom};
 ghost use Rattle.calls.specs.Records.{RunOver, RunEnds};
 
@@ -61,9 +61,10 @@ fn chunk_in<'a>(
     requires { ChunkOver entries.now starts.now first.now status.now values.old chunk
         × BoardKept (length values.old) entries.now room.old.lists.now room.old.holders.now room.old.marks.now
         room.old.board.values.now room.old.board.keys.now room.old.board.hot.now room.old.board.trail.now }
-    ensures { ChunkCalled entries.now first.now status.now chunk meter result values.new
-        × BoardKept (length values.old) entries.now room.new.lists.now room.new.holders.now room.new.marks.now
+    ensures called { ChunkCalled entries.now first.now status.now chunk meter result values.new }
+    ensures kept { BoardKept (length values.old) entries.now room.new.lists.now room.new.holders.now room.new.marks.now
         room.new.board.values.now room.new.board.keys.now room.new.board.hot.now room.new.board.trail.now }
+    ensures same { SameRooms room.old room.new }
 {
     steps::chunk::fill_start(status, values);
     let mut literals = [0i32; rules::MAX_CHUNK as usize];
@@ -96,10 +97,11 @@ fn next_call(
     requires { CallDue entries.now starts.now first.now status.old log.old values.old t limits
         × BoardKept (length status.old) entries.now room.old.lists.now room.old.holders.now room.old.marks.now
         room.old.board.values.now room.old.board.keys.now room.old.board.hot.now room.old.board.trail.now }
-    ensures { CalledFrom entries.now limits t first.now status.old log.old
-        result status.new log.new values.new
-        × BoardKept (length status.old) entries.now room.new.lists.now room.new.holders.now room.new.marks.now
+    ensures called { CalledFrom entries.now limits t first.now status.old log.old
+        result status.new log.new values.new }
+    ensures kept { BoardKept (length status.old) entries.now room.new.lists.now room.new.holders.now room.new.marks.now
         room.new.board.values.now room.new.board.keys.now room.new.board.hot.now room.new.board.trail.now }
+    ensures same { SameRooms room.old room.new }
 {
     let chunk = t.size.min(t.candidates);
     let meter = Meter {
@@ -153,6 +155,7 @@ pub fn run_calls(
         log.old result status.new calls.new ways.new log.new }
     ensures kept { BoardKept (length status.old) entries.now room.new.lists.now room.new.holders.now room.new.marks.now
         room.new.board.values.now room.new.board.keys.now room.new.board.hot.now room.new.board.trail.now }
+    ensures same { SameRooms room.old room.new }
 {
     let mut tally = t;
     // Stays a `while`: how many candidates are left, the calls say.

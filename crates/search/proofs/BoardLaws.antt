@@ -27,22 +27,13 @@ use Rattle.rules.specs.Search.{lowest_unset}
 use Rattle.rules.proofs.MeaningLaws.{set_cases}
 use Rattle.rules.proofs.CallLaws.{Lowest, lowest_unset_sound}
 use Rattle.formula.specs.Literals.{byte_of}
-use Rattle.board.specs.declared.parts.Board.{Board}
-use Rattle.board.specs.Boards.{SameRoom, trail_len}
+use Rattle.board.specs.Boards.{trail_len}
 use Rattle.board.specs.Trails.{Trail, Leads, Undone}
 use Rattle.board.specs.Trails.Way.{start}
 use Rattle.board.proofs.TrailLaws.{way_le}
 use Rattle.search.specs.Choices.{VarUpTo}
 use Rattle.search.specs.Calls.{unless_model}
 use Rattle.search.specs.Boards.{SetBelow, TakenBack}
-
--- ---- what is lent keeps its length
-
-pub same_self : {b : Board} → SameRoom b b
-same_self = record { values = refl; keys = refl; hot = refl; trail = refl }
-
-pub same_then : {a b c : Board} → SameRoom a b → SameRoom b c → SameRoom a c
-same_then p q = record { values = q.values ∙ p.values; keys = q.keys ∙ p.keys; hot = q.hot ∙ p.hot; trail = q.trail ∙ p.trail }
 
 -- ---- taking back
 

@@ -3,6 +3,7 @@
 --   few, many                   what is in use is within the arrays
 --   in_use                      the part that came back
 --   begun_kept                  a board that is begun
+--   rooms_self, rooms_then      a room that is lent: where nothing is done, and one function after another
 --
 -- Assumes nothing.
 use mathlib.Core.Path.{◌≡◌, refl, ◌∙◌, ap}
@@ -19,7 +20,9 @@ use Rattle.formula.proofs.ClauseLaws.{length_starts}
 use Rattle.board.specs.Boards.{trail_len}
 use Rattle.board.specs.Trails.Way.{start}
 use Rattle.board.specs.Begins.{Begun}
-use Rattle.search.specs.Rooms.{BoardKept}
+use Rattle.board.proofs.SameLaws.{same_self, same_then}
+use Rattle.search.specs.declared.room.Room.{Room}
+use Rattle.search.specs.Rooms.{BoardKept, SameRooms}
 
 pub few : {vars : ℕ} {es : List ℤ} {starts : List ℕ} → Formula vars es starts → vars ≤ 256
 few f = f.vars_fit
@@ -47,4 +50,19 @@ begun_kept {vars} {trail = trail} b =
       trail_is =
           start {len = trail_len trail}
           (omega (arith, rw b.values_are at b.shows.counted, unsets-blank vars, length-replicate {A = ℕ} vars 0)) b.values_are;
+    }
+
+-- ---- a room that is lent
+
+pub rooms_self : {r : Room} → SameRooms r r
+rooms_self = record { lists = refl; holders = refl; marks = refl; marks_stay = refl; board = same_self }
+
+pub rooms_then : {r s t : Room} → SameRooms r s → SameRooms s t → SameRooms r t
+rooms_then p q =
+    record {
+      lists = q.lists ∙ p.lists;
+      holders = q.holders ∙ p.holders;
+      marks = q.marks ∙ p.marks;
+      marks_stay = q.marks_stay ∙ p.marks_stay;
+      board = same_then p.board q.board;
     }

@@ -5,6 +5,7 @@ ghost use Rattle.rules.specs.Meaning.{clauses};
 ghost use Rattle.rules.specs.Run.{blank};
 ghost use Rattle.formula.specs.Formula.{Formula};
 ghost use Rattle.board.specs.Boards.{SameRoom};
+ghost use Rattle.search.specs.Rooms.{SameRooms};
 ghost use Rattle.search.specs.Wholes.{CallFrom, CallIn, CalledIn, ClosesBy};
 
 use crate::call::{CallEnd, go_on};
@@ -65,7 +66,7 @@ pub fn call_in(view: &View, room: &mut Room, total: u32, values: &mut [u8], mete
     ensures done { CalledIn view.now.entries.now view.now.constraint.now total values.old meter result
         room.new.lists.now room.new.holders.now room.new.marks.now
         room.new.board.values.now room.new.board.keys.now room.new.board.hot.now room.new.board.trail.now values.new }
-    ensures same { SameRoom room.old.board room.new.board }
+    ensures same { SameRooms room.old room.new }
 {
     call_over(
         view,

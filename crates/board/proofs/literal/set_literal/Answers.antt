@@ -1,5 +1,5 @@
 -- `board::literal::set_literal` meets its contract: two changes, each of which can be made, and a place on the trail. Assumes nothing.
-use mathlib.Core.Path.{◌∙◌, ap}
+use mathlib.Core.Path.{refl, ◌∙◌, ap}
 use Prim.Native.Nat.{◌<◌}
 use native.Mathlib.Omega.{arith}
 use Rattle.board.specs.Boards.{pushed}
@@ -44,5 +44,9 @@ returns c =
             keys = c.change_at-2.auto.keys ∙ c.change_at.auto.keys;
             hot = c.change_at-2.auto.hot ∙ c.change_at.auto.hot;
             trail = c.push.auto.trail;
+            values_stay = refl;
+            keys_stay = refl;
+            hot_stay = refl;
+            trail_stay = refl;
           };
     }

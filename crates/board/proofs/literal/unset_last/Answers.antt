@@ -36,5 +36,9 @@ returns c =
             keys = c.change_at-2.auto.keys ∙ c.change_at.auto.keys;
             hot = c.change_at-2.auto.hot ∙ c.change_at.auto.hot;
             trail = length-set b.trail.now _ _;
+            values_stay = refl;
+            keys_stay = refl;
+            hot_stay = refl;
+            trail_stay = refl;
           };
     }

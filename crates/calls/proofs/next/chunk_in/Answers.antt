@@ -32,7 +32,9 @@ call_in-requires c =
     }
 
 pub returns : goal.returns
-returns c = (
-  chunk_ends c.requires.0 c.put_constraint.ensures c.fill_start.ensures c.args.meter c.call_in.ensures.done.calls,
-  rw c.fill_start.auto.values at c.call_in.ensures.done.kept,
-)
+returns c =
+    record {
+      called = chunk_ends c.requires.0 c.put_constraint.ensures c.fill_start.ensures c.args.meter c.call_in.ensures.done.calls;
+      kept = rw c.fill_start.auto.values at c.call_in.ensures.done.kept;
+      same = c.call_in.ensures.same;
+    }

@@ -21,35 +21,44 @@ chunk_in-end-requires c =
 pub after_model-requires : goal.after_model-requires
 after_model-requires c =
     let len = c.chunk_in-end.auto.values ∙ c.requires.0.over.values_len in
-    record { formula = rw len c.requires.0.over.formula; tally = ready_made c.requires.0 c.chunk_in-end.ensures.0; model_len = len }
+    record { formula = rw len c.requires.0.over.formula; tally = ready_made c.requires.0 c.chunk_in-end.ensures.called; model_len = len }
 
 pub after_none-requires : goal.after_none-requires
 after_none-requires c =
     let o = c.requires.0.over in
     record {
-      tally = ready_made c.requires.0 c.chunk_in-end.ensures.0;
+      tally = ready_made c.requires.0 c.chunk_in-end.ensures.called;
       chunk_most = omega (arith, c.min-chunk.ensures);
       size_fit = omega (arith, size_le o.allowed.some o.here.reached, o.allowed.most);
     }
 
 pub row_only-requires : goal.row_only-requires
 row_only-requires c =
-    (ready_made c.requires.0 c.chunk_in-end.ensures.0).row
+    (ready_made c.requires.0 c.chunk_in-end.ensures.called).row
 
 pub returns-in-Model : goal.returns-in-Model
-returns-in-Model c = (
-  λ w. on_model _ _ c.args.limits w (call_made c.requires.0 c.chunk_in-end.ensures.0 c.min-chunk.ensures) c.in-Model.is c.after_model.ensures,
-  rw c.requires.0.over.values_len at c.chunk_in-end.ensures.1,
-)
+returns-in-Model c =
+    record {
+      called =
+          λ w. on_model _ _ c.args.limits w (call_made c.requires.0 c.chunk_in-end.ensures.called c.min-chunk.ensures) c.in-Model.is c.after_model.ensures;
+      kept = rw c.requires.0.over.values_len at c.chunk_in-end.ensures.kept;
+      same = c.chunk_in-end.ensures.same;
+    }
 
 pub returns-in-NoModel : goal.returns-in-NoModel
-returns-in-NoModel c = (
-  λ w. on_none _ _ c.args.limits w (call_made c.requires.0 c.chunk_in-end.ensures.0 c.min-chunk.ensures) c.in-NoModel.is c.after_none.ensures,
-  rw c.requires.0.over.values_len at c.chunk_in-end.ensures.1,
-)
+returns-in-NoModel c =
+    record {
+      called =
+          λ w. on_none _ _ c.args.limits w (call_made c.requires.0 c.chunk_in-end.ensures.called c.min-chunk.ensures) c.in-NoModel.is c.after_none.ensures;
+      kept = rw c.requires.0.over.values_len at c.chunk_in-end.ensures.kept;
+      same = c.chunk_in-end.ensures.same;
+    }
 
 pub returns-in-Stopped : goal.returns-in-Stopped
-returns-in-Stopped c = (
-  λ w. on_stopped _ _ c.args.limits w (call_made c.requires.0 c.chunk_in-end.ensures.0 c.min-chunk.ensures) c.in-Stopped.is c.row_only.ensures,
-  rw c.requires.0.over.values_len at c.chunk_in-end.ensures.1,
-)
+returns-in-Stopped c =
+    record {
+      called =
+          λ w. on_stopped _ _ c.args.limits w (call_made c.requires.0 c.chunk_in-end.ensures.called c.min-chunk.ensures) c.in-Stopped.is c.row_only.ensures;
+      kept = rw c.requires.0.over.values_len at c.chunk_in-end.ensures.kept;
+      same = c.chunk_in-end.ensures.same;
+    }

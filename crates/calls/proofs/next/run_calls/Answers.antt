@@ -1,11 +1,12 @@
 -- `next::run_calls` meets its contract. Assumes nothing.
 use mathlib.Core.Path.{sym, ◌∙◌}
+use Rattle.search.proofs.RoomLaws.{rooms_self, rooms_then}
 use Rattle.calls.proofs.LoopLaws.{kept_start, first_length, going_step, going_less, going_end, going_done, kept_step, kept_end, kept_done}
 use Rattle.calls.proofs.next.run_calls.Goals as goal
 
 pub loop-tally-init : goal.loop-tally-init
 loop-tally-init c =
-    (kept_start _ _ _ _ _ _ _ _ _, c.requires.1)
+    (kept_start _ _ _ _ _ _ _ _ _, c.requires.1, rooms_self)
 
 pub next_call-requires : goal.next_call-requires
 next_call-requires c =
@@ -41,7 +42,7 @@ pub loop-tally-smaller : goal.loop-tally-smaller
 loop-tally-smaller c =
     let p = c.requires.0.over in
     let l = c.loop-tally.invariant.0.running in
-    going_less p.allowed.some l.going (rw l.status_len at c.next_call.ensures.0) c.in-Continue.is p.here
+    going_less p.allowed.some l.going (rw l.status_len at c.next_call.ensures.called) c.in-Continue.is p.here
 
 pub loop-tally-preserved : goal.loop-tally-preserved
 loop-tally-preserved c =
@@ -49,7 +50,7 @@ loop-tally-preserved c =
     let w = c.loop-tally.invariant.0 in
     let l = w.running in
     let kept = c.next_call.auto in
-    let ensured = rw l.status_len at c.next_call.ensures.0 in (
+    let ensured = rw l.status_len at c.next_call.ensures.called in (
       record {
         running =
             record {
@@ -64,7 +65,8 @@ loop-tally-preserved c =
             kept_step p.allowed.some l.going ensured c.loop-tally-test.true w.shown c.in-Continue.is
             c.put_records.ensures;
       },
-      rw l.status_len at c.next_call.ensures.1,
+      rw l.status_len at c.next_call.ensures.kept,
+      rooms_then c.loop-tally.invariant.2 c.next_call.ensures.same,
     )
 
 pub returns-in-Break : goal.returns-in-Break
@@ -72,7 +74,7 @@ returns-in-Break c =
     let p = c.requires.0.over in
     let w = c.loop-tally.invariant.0 in
     let l = w.running in
-    let ensured = rw l.status_len at c.next_call.ensures.0 in
+    let ensured = rw l.status_len at c.next_call.ensures.called in
     record {
       run =
           record {
@@ -81,7 +83,8 @@ returns-in-Break c =
                 λ v x. kept_end p.allowed.some l.going ensured c.loop-tally-test.true w.shown
                 c.in-Break.is v x;
           };
-      kept = rw l.status_len at c.next_call.ensures.1;
+      kept = rw l.status_len at c.next_call.ensures.kept;
+      same = rooms_then c.loop-tally.invariant.2 c.next_call.ensures.same;
     }
 
 pub returns : goal.returns
@@ -95,4 +98,5 @@ returns c =
             records = λ v x. kept_done p.allowed.some w.running.going c.loop-tally-test.false v (w.shown v x);
           };
       kept = c.loop-tally.invariant.1;
+      same = c.loop-tally.invariant.2;
     }

@@ -5,7 +5,7 @@ use Rattle.search.proofs.CallLaws.{choice_none}
 use Rattle.search.proofs.OnBoardLaws.{back_asks, went_clash, closed_few, closed_below, went_model}
 use Rattle.search.proofs.OnBoardLaws.{turn_begins, turn_falls, turn_asks, turn_again, turn_went}
 use Rattle.search.proofs.OnBoardLaws.{try_asks, tried_back}
-use Rattle.search.proofs.BoardLaws.{same_then}
+use Rattle.board.proofs.SameLaws.{same_then}
 use Rattle.search.proofs.call.+go_on_try_value.Goals as goal
 
 pub go_on-take_back-requires : goal.go_on-take_back-requires

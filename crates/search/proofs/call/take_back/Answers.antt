@@ -1,11 +1,11 @@
 -- `search::call::take_back` meets its contract. Assumes nothing.
-use mathlib.Core.Path.{refl}
+use Rattle.board.proofs.SameLaws.{same_self}
 use Rattle.search.proofs.BoardLaws.{taken_model, taken_undone}
 use Rattle.search.proofs.call.take_back.Goals as goal
 
 pub returns-in-Model : goal.returns-in-Model
 returns-in-Model c =
-    record { done = taken_model c.in-Model.is; same = record { values = refl; keys = refl; hot = refl; trail = refl } }
+    record { done = taken_model c.in-Model.is; same = same_self }
 
 pub returns : goal.returns
 returns c =
