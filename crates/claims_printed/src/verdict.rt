@@ -7,7 +7,7 @@ ghost use Rattle.buffers.specs.Put.{Put, Room};
 ghost use Rattle.claims_printed.specs.Verdict.{TextPut};
 
 use buffers::put::{put_byte, put_field, put_word};
-use lines::line::put_refused;
+use lines::line::put_refusal;
 use rules::{ClaimsAnswer, ReadAnswer};
 
 // The line of an accepted file.
@@ -31,7 +31,7 @@ fn put_verdict(out: &mut [u8], answer: ClaimsAnswer) -> usize
 {
     match answer {
         ClaimsAnswer::Accepted(n) => put_accepted(out, n),
-        answer => put_refused(out, 0, answer),
+        answer => put_refusal(out, 0, answer),
     }
 }
 
@@ -48,6 +48,6 @@ pub fn put_text(out: &mut [u8], text: &[u8], claims: &[u8], entries: &mut [i32])
             let verdict = claims::check_claims(&entries[..reading.entries], reading.vars, claims);
             put_verdict(out, verdict)
         }
-        answer => put_refused(out, 0, answer),
+        answer => put_refusal(out, 0, answer),
     }
 }

@@ -9,7 +9,7 @@ ghost use Rattle.printed.specs.Table.{Sized};
 ghost use Rattle.groups_printed.specs.Table.{ListReady, TableReady};
 
 use crate::line::put_groups;
-use lines::line::{put_answer, put_refused};
+use lines::line::{put_answer, put_refusal};
 use rules::{GroupsAnswer, RunAnswer, TABLE_BUDGET, TABLE_CHUNK};
 
 // The answer line, and a line for each value. After 20 there is no valid setup and nothing to say of a value.
@@ -103,6 +103,6 @@ pub fn put_text(out: &mut [u8], text: &[u8], entries: &mut [i32], sizes: &mut [u
                 reading.vars,
             )
         }
-        answer => put_refused(out, 0, answer),
+        answer => put_refusal(out, 0, answer),
     }
 }

@@ -7,16 +7,26 @@ ghost use Rattle.lines.specs.Lines.{status_line, count_fields, end_fields, Lines
 use buffers::put::{put_byte, put_decimal, put_field, put_word};
 use rules::numbers::Answer;
 
-// The line of a refusal.
+// The line of a refusal, by its number and its place.
 // Rules out: number and place exchanged; a line without LF.
+// Required of: put_refusal, whose room is the whole line's.
+pub fn put_refused(out: &mut [u8], at: usize, number: u32, place: usize) -> usize
+    requires { Room at (refused_line number place) out.old }
+    ensures { Put at (refused_line number place) out.old result out.new }
+{
+    let behind_number = put_field(out, at, b"refused ", number as usize);
+    let behind_place = put_field(out, behind_number, b" place ", place);
+    put_byte(out, behind_place, 10)
+}
+
+// The line of a refusal, whoever refuses.
+// Rules out: the line of another answer; the place of another.
 // Required of: printed::table::put_text, whose room is the whole table's.
-pub fn put_refused<A: Answer + Copy>(out: &mut [u8], at: usize, answer: A) -> usize
+pub fn put_refusal<A: Answer + Copy>(out: &mut [u8], at: usize, answer: A) -> usize
     requires { Room at (refused_line (A.number_of answer) (A.place_of answer)) out.old }
     ensures { Put at (refused_line (A.number_of answer) (A.place_of answer)) out.old result out.new }
 {
-    let behind_number = put_field(out, at, b"refused ", answer.number() as usize);
-    let behind_place = put_field(out, behind_number, b" place ", answer.place());
-    put_byte(out, behind_place, 10)
+    put_refused(out, at, answer.number(), answer.place())
 }
 
 // The first three numbers of the answer line.

@@ -6,7 +6,7 @@ ghost use Rattle.texts.specs.Printed.{table_of, table_of_run, table_budget, tabl
 ghost use Rattle.buffers.specs.Put.{Put, Room};
 ghost use Rattle.printed.specs.Table.{table_of_list, ListReady, Sized, TableReady, RunPut, TextPut};
 
-use lines::line::{put_answer, put_lines, put_refused};
+use lines::line::{put_answer, put_lines, put_refusal};
 use rules::{ReadAnswer, RunAnswer, TABLE_BUDGET, TABLE_CHUNK};
 
 // The answer line, and a line for each variable. After 20 there is no model and nothing to say of a variable; a refused run has one line.
@@ -23,7 +23,7 @@ fn put_table(
     ensures { Put 0 (table_of_run vars report status.now hints.now) out.old result out.new }
 {
     match report.answer {
-        RunAnswer::Refused(refusal) => put_refused(out, 0, refusal),
+        RunAnswer::Refused(refusal) => put_refusal(out, 0, refusal),
         RunAnswer::NoModel => put_answer(out, 0, vars, report),
         RunAnswer::Settled | RunAnswer::Stopped => {
             let next = put_answer(out, 0, vars, report);
@@ -104,6 +104,6 @@ pub fn put_text(out: &mut [u8], text: &[u8], held: &[i32], entries: &mut [i32]) 
     let reading = reader::read(text, entries);
     match reading.answer {
         ReadAnswer::Accepted => put_list(out, &entries[..reading.entries], reading.vars, held),
-        answer => put_refused(out, 0, answer),
+        answer => put_refusal(out, 0, answer),
     }
 }

@@ -6,7 +6,7 @@ ghost use Rattle.rules.specs.Numbers.{max_text, max_entries};
 ghost use Rattle.texts.specs.ShorterPrinted.{PrintsShorter};
 ghost use Rattle.shorter_printed.specs.Printed.{TextPut};
 
-use lines::line::put_refused;
+use lines::line::put_refusal;
 use rules::{ReadAnswer, TABLE_BUDGET, TABLE_CHUNK};
 
 // The shorter file of a text, or the line of its refusal.
@@ -23,7 +23,7 @@ fn put_text(out: &mut [u8], text: &[u8], entries: &mut [i32]) -> usize
             let report = shorter::shorter(list, reading.vars, TABLE_BUDGET, TABLE_CHUNK, out);
             report.length
         }
-        answer => put_refused(out, 0, answer),
+        answer => put_refusal(out, 0, answer),
     }
 }
 

@@ -10,7 +10,7 @@ ghost use Rattle.why_printed.specs.Reason.{reason_text, ReasonReady, AnswerReady
 
 use crate::clauses::put_reason;
 use crate::line::put_first;
-use lines::line::put_refused;
+use lines::line::put_refusal;
 use lines::model::put_model;
 use rules::{Lit, ReadAnswer, WHY_BUDGET, WhyAnswer, WhyReport};
 
@@ -54,7 +54,7 @@ fn put_answer(
         WhyAnswer::Kept => put_kept(out, entries, report, marks),
         WhyAnswer::NoModel | WhyAnswer::Stopped => put_first(out, 0, report, 0),
         WhyAnswer::NotForced => put_false(out, report, values),
-        WhyAnswer::Refused(refusal) => put_refused(out, 0, refusal),
+        WhyAnswer::Refused(refusal) => put_refusal(out, 0, refusal),
     }
 }
 
@@ -100,6 +100,6 @@ pub fn put_text(out: &mut [u8], text: &[u8], literal: Lit, entries: &mut [i32]) 
     let reading = reader::read(text, entries);
     match reading.answer {
         ReadAnswer::Accepted => put_list(out, &entries[..reading.entries], reading.vars, literal),
-        answer => put_refused(out, 0, answer),
+        answer => put_refusal(out, 0, answer),
     }
 }

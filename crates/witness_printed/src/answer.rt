@@ -8,7 +8,7 @@ ghost use Rattle.buffers.specs.Put.{Put, Room};
 ghost use Rattle.witness_printed.specs.Pair.{AnswerReady, AnswerPut, ListReady, Sized, AskedPut, TextPut};
 
 use crate::pair::put_pair;
-use lines::line::put_refused;
+use lines::line::put_refusal;
 use rules::{ReadAnswer, Report, RunAnswer, TABLE_BUDGET, TABLE_CHUNK};
 
 // What is printed for an answer: the refusal alone if it is one, else both models.
@@ -29,7 +29,7 @@ fn put_answer(
         RunAnswer::Settled | RunAnswer::NoModel | RunAnswer::Stopped => {
             put_pair(out, first, witness, bits)
         }
-        RunAnswer::Refused(refusal) => put_refused(out, 0, refusal),
+        RunAnswer::Refused(refusal) => put_refusal(out, 0, refusal),
     }
 }
 
@@ -94,6 +94,6 @@ pub fn put_text(out: &mut [u8], text: &[u8], variable: u32, entries: &mut [i32])
     let reading = reader::read(text, entries);
     match reading.answer {
         ReadAnswer::Accepted => put_list(out, &entries[..reading.entries], reading.vars, variable),
-        answer => put_refused(out, 0, answer),
+        answer => put_refusal(out, 0, answer),
     }
 }

@@ -11,8 +11,8 @@ slice_bounds-list-end c = counted c.read-reading.ensures c.requires.1 c.in-Accep
 pub slice_bounds-list-end-in-Accepted : goal.slice_bounds-list-end-in-Accepted
 slice_bounds-list-end-in-Accepted c = sym (length-take-le _ _ (counted c.read-reading.ensures c.requires.1 c.in-Accepted.is))
 
-pub put_refused-requires : goal.put_refused-requires
-put_refused-requires c =
+pub put_refusal-requires : goal.put_refusal-requires
+put_refusal-requires c =
     room_same (put_line c.read-reading.ensures c.requires.1 c.in_default.not-Accepted)
     (line_room c.args.text.now c.args.out.now c.requires.0)
 
@@ -26,6 +26,6 @@ returns-in-Accepted c =
 pub returns-in_default : goal.returns-in_default
 returns-in_default c =
     record {
-      put = put_same (sym (put_line c.read-reading.ensures c.requires.1 c.in_default.not-Accepted)) c.put_refused.ensures;
+      put = put_same (sym (put_line c.read-reading.ensures c.requires.1 c.in_default.not-Accepted)) c.put_refusal.ensures;
       entries_are = c.read-reading.ensures.after_is;
     }

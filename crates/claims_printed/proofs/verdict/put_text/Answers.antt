@@ -31,8 +31,8 @@ returns-in-Accepted c =
       entries_are = c.read-reading.ensures.after_is;
     }
 
-pub put_refused-requires : goal.put_refused-requires
-put_refused-requires c =
+pub put_refusal-requires : goal.put_refusal-requires
+put_refusal-requires c =
     room_same (read_line c.read-reading.ensures c.requires.1 c.args.claims.now c.in_default.not-Accepted) c.requires.0
 
 pub returns-in_default : goal.returns-in_default
@@ -40,6 +40,6 @@ returns-in_default c =
     record {
       put =
           put_same (sym (read_line c.read-reading.ensures c.requires.1 c.args.claims.now c.in_default.not-Accepted))
-          c.put_refused.ensures;
+          c.put_refusal.ensures;
       entries_are = c.read-reading.ensures.after_is;
     }

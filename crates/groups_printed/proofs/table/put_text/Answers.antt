@@ -29,11 +29,11 @@ pub returns-in-Accepted : goal.returns-in-Accepted
 returns-in-Accepted c =
     put_same (sym (read_list c.read_groups-reading.ensures c.requires.1 c.requires.2 c.in-Accepted.is).table_is) c.put_list.ensures
 
-pub put_refused-requires : goal.put_refused-requires
-put_refused-requires c =
+pub put_refusal-requires : goal.put_refusal-requires
+put_refusal-requires c =
     room_same (read_line c.read_groups-reading.ensures c.requires.1 c.requires.2 c.in_default.not-Accepted) c.requires.0
 
 pub returns-in_default : goal.returns-in_default
 returns-in_default c =
     put_same (sym (read_line c.read_groups-reading.ensures c.requires.1 c.requires.2 c.in_default.not-Accepted))
-    c.put_refused.ensures
+    c.put_refusal.ensures

@@ -12,8 +12,8 @@ put_list-requires c =
     let l = read_list c.read-reading.ensures c.requires.1 c.args.held.now c.in-Accepted.is in
     record { runs = l.runs; room = room_same l.table_is c.requires.0 }
 
-pub put_refused-requires : goal.put_refused-requires
-put_refused-requires c =
+pub put_refusal-requires : goal.put_refusal-requires
+put_refusal-requires c =
     room_same (read_line c.read-reading.ensures c.requires.1 c.args.held.now c.in_default.not-Accepted) c.requires.0
 
 pub returns-in_default : goal.returns-in_default
@@ -21,6 +21,6 @@ returns-in_default c =
     record {
       put =
           put_same (sym (read_line c.read-reading.ensures c.requires.1 c.args.held.now c.in_default.not-Accepted))
-          c.put_refused.ensures;
+          c.put_refusal.ensures;
       entries_are = c.read-reading.ensures.after_is;
     }
