@@ -4,6 +4,9 @@
 // name, number and place, calls, tries, forced and free, the status bytes, the calls and the ways that settled the variables, the hints,
 // the rows of the calls begun, and how many elements of each buffer are still 7, which all of them were before.
 // `crates/backbone_test/stdout` was written by hand from the page.
+ghost use Rattle.std.specs.Prelude.{◌≤◌};
+
+use backbone::Buffers;
 use rules::Report;
 use rules::numbers::Answer;
 use std::io;
@@ -67,44 +70,31 @@ fn show_report(rt: &impl Print, name: &[u8], r: Report) -> io::Result<()> {
     Ok(())
 }
 
-fn show_settled(
-    rt: &impl Print,
-    vars: u32,
-    status: &[u8],
-    calls: &[u32],
-    ways: &[u8],
-) -> io::Result<()> {
+fn show_settled(rt: &impl Print, vars: u32, buffers: &Buffers) -> io::Result<()> {
     word(rt, b" status")?;
-    show_numbers(rt, status, vars)?;
+    show_numbers(rt, buffers.status, vars)?;
     word(rt, b" calls")?;
-    show_numbers(rt, calls, vars)?;
+    show_numbers(rt, buffers.calls, vars)?;
     word(rt, b" ways")?;
-    show_numbers(rt, ways, vars)?;
+    show_numbers(rt, buffers.ways, vars)?;
     Ok(())
 }
 
-fn show_run(rt: &impl Print, vars: u32, begun: u32, hints: &[u32], log: &[u32]) -> io::Result<()> {
+fn show_run(rt: &impl Print, vars: u32, begun: u32, buffers: &Buffers) -> io::Result<()> {
     word(rt, b" hints")?;
-    show_numbers(rt, hints, vars)?;
+    show_numbers(rt, buffers.hints, vars)?;
     word(rt, b" log")?;
-    show_rows(rt, log, begun)?;
+    show_rows(rt, buffers.log, begun)?;
     Ok(())
 }
 
-fn show_kept(
-    rt: &impl Print,
-    status: &[u8],
-    calls: &[u32],
-    ways: &[u8],
-    hints: &[u32],
-    log: &[u32],
-) -> io::Result<()> {
+fn show_kept(rt: &impl Print, buffers: &Buffers) -> io::Result<()> {
     word(rt, b" kept")?;
-    field(rt, kept(status))?;
-    field(rt, kept(calls))?;
-    field(rt, kept(ways))?;
-    field(rt, kept(hints))?;
-    field(rt, kept(log))?;
+    field(rt, kept(buffers.status))?;
+    field(rt, kept(buffers.calls))?;
+    field(rt, kept(buffers.ways))?;
+    field(rt, kept(buffers.hints))?;
+    field(rt, kept(buffers.log))?;
     word(rt, b"\n")?;
     Ok(())
 }
@@ -117,19 +107,13 @@ fn show(
     held: &[i32],
     budget: u32,
     limit: u32,
-    status: &mut [u8],
-    calls: &mut [u32],
-    ways: &mut [u8],
-    hints: &mut [u32],
-    log: &mut [u32],
+    buffers: &mut Buffers,
 ) -> io::Result<()> {
-    let r = backbone::run(
-        entries, vars, held, budget, limit, status, calls, ways, hints, log,
-    );
+    let r = backbone::run(entries, vars, held, budget, limit, buffers);
     show_report(rt, name, r)?;
-    show_settled(rt, vars, status, calls, ways)?;
-    show_run(rt, vars, r.calls, hints, log)?;
-    show_kept(rt, status, calls, ways, hints, log)?;
+    show_settled(rt, vars, buffers)?;
+    show_run(rt, vars, r.calls, buffers)?;
+    show_kept(rt, buffers)?;
     Ok(())
 }
 
@@ -156,11 +140,13 @@ fn show_all(
         held,
         budget,
         limit,
-        &mut status,
-        &mut calls,
-        &mut ways,
-        &mut hints,
-        &mut log,
+        &mut Buffers {
+            status: &mut status,
+            calls: &mut calls,
+            ways: &mut ways,
+            hints: &mut hints,
+            log: &mut log,
+        },
     )?;
     Ok(())
 }
@@ -179,31 +165,35 @@ fn show_within(
     Ok(())
 }
 
-// Three variables, one of them on, budget 100 and chunk limit 2, with these buffers.
-fn show_lent(
+// Three variables and a chunk limit, budget 100, with buffers of these lengths.
+fn show_lent<
+    const STATUS: usize,
+    const CALLS: usize,
+    const WAYS: usize,
+    const HINTS: usize,
+    const LOG: usize,
+>(
     rt: &impl Print,
     name: &[u8],
-    status: &mut [u8],
-    calls: &mut [u32],
-    ways: &mut [u8],
-    hints: &mut [u32],
-    log: &mut [u32],
-) -> io::Result<()> {
+    entries: &[i32],
+    limit: u32,
+) -> io::Result<()>
+    requires { (STATUS ≤ 25) × (CALLS ≤ 25) × (WAYS ≤ 25) × (HINTS ≤ 25) × (LOG ≤ 25) }
+{
     let none = [0i32; 0];
-    show(
-        rt,
-        name,
-        &[1, 2, 3, 0],
-        3,
-        &none,
-        100,
-        2,
-        status,
-        calls,
-        ways,
-        hints,
-        log,
-    )?;
+    let mut status = [7u8; STATUS];
+    let mut calls = [7u32; CALLS];
+    let mut ways = [7u8; WAYS];
+    let mut hints = [7u32; HINTS];
+    let mut log = [7u32; LOG];
+    let mut buffers = Buffers {
+        status: &mut status,
+        calls: &mut calls,
+        ways: &mut ways,
+        hints: &mut hints,
+        log: &mut log,
+    };
+    show(rt, name, entries, 3, &none, 100, limit, &mut buffers)?;
     Ok(())
 }
 
@@ -269,68 +259,12 @@ fn limit_cases(rt: &impl Print) -> io::Result<()> {
 
 // 1.
 fn buffer_cases(rt: &impl Print) -> io::Result<()> {
-    let mut status = [7u8; 3];
-    let mut calls = [7u32; 3];
-    let mut ways = [7u8; 3];
-    let mut hints = [7u32; 3];
-    let mut rows = [7u32; 24];
-    let mut two = [7u8; 2];
-    let mut few = [7u32; 2];
-    let mut less = [7u32; 23];
-    show_lent(
-        rt,
-        b"status_short",
-        &mut two,
-        &mut calls,
-        &mut ways,
-        &mut hints,
-        &mut rows,
-    )?;
-    show_lent(
-        rt,
-        b"calls_short",
-        &mut status,
-        &mut few,
-        &mut ways,
-        &mut hints,
-        &mut rows,
-    )?;
-    show_lent(
-        rt,
-        b"ways_short",
-        &mut status,
-        &mut calls,
-        &mut two,
-        &mut hints,
-        &mut rows,
-    )?;
-    show_lent(
-        rt,
-        b"hints_short",
-        &mut status,
-        &mut calls,
-        &mut ways,
-        &mut few,
-        &mut rows,
-    )?;
-    show_lent(
-        rt,
-        b"log_short",
-        &mut status,
-        &mut calls,
-        &mut ways,
-        &mut hints,
-        &mut less,
-    )?;
-    show_lent(
-        rt,
-        b"buffers_right",
-        &mut status,
-        &mut calls,
-        &mut ways,
-        &mut hints,
-        &mut rows,
-    )?;
+    show_lent::<2, 3, 3, 3, 24>(rt, b"status_short", &[1, 2, 3, 0], 2)?;
+    show_lent::<3, 2, 3, 3, 24>(rt, b"calls_short", &[1, 2, 3, 0], 2)?;
+    show_lent::<3, 3, 2, 3, 24>(rt, b"ways_short", &[1, 2, 3, 0], 2)?;
+    show_lent::<3, 3, 3, 2, 24>(rt, b"hints_short", &[1, 2, 3, 0], 2)?;
+    show_lent::<3, 3, 3, 3, 23>(rt, b"log_short", &[1, 2, 3, 0], 2)?;
+    show_lent::<3, 3, 3, 3, 24>(rt, b"buffers_right", &[1, 2, 3, 0], 2)?;
     Ok(())
 }
 
@@ -366,40 +300,8 @@ fn above_cases(rt: &impl Print) -> io::Result<()> {
 
 // The order 10, 1, 11, 12, and within 11: too many entries, not ended, too many zeros.
 fn order_cases(rt: &impl Print) -> io::Result<()> {
-    let mut two = [7u8; 2];
-    let mut calls = [7u32; 3];
-    let mut ways = [7u8; 3];
-    let mut hints = [7u32; 3];
-    let mut log = [7u32; 25];
-    let none = [0i32; 0];
-    show(
-        rt,
-        b"10_before_1",
-        &[2],
-        3,
-        &none,
-        100,
-        0,
-        &mut two,
-        &mut calls,
-        &mut ways,
-        &mut hints,
-        &mut log,
-    )?;
-    show(
-        rt,
-        b"1_before_11",
-        &[4],
-        3,
-        &none,
-        100,
-        2,
-        &mut two,
-        &mut calls,
-        &mut ways,
-        &mut hints,
-        &mut log,
-    )?;
+    show_lent::<2, 3, 3, 3, 25>(rt, b"10_before_1", &[2], 0)?;
+    show_lent::<2, 3, 3, 3, 25>(rt, b"1_before_11", &[4], 2)?;
     show_plain(rt, b"11_before_12", &[2], 1)?;
     let mut zeros = [0i32; 1026];
     zeros[0] = 2;

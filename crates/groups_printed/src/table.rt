@@ -1,7 +1,7 @@
 // The table of a file of groups (docs/RULES.md, "The printed groups"): read, run, put.
 ghost use Rattle.std.specs.Prelude.{◌≡◌, length};
 ghost use Rattle.rules.specs.Numbers.{max_entries};
-ghost use Rattle.rules.specs.Answer.{buffers};
+ghost use Rattle.backbone.specs.Lent.{lent, SameBuffers};
 ghost use Rattle.texts.specs.Groups.{max_groups};
 ghost use Rattle.texts.specs.GroupsPrinted.{groups_table_of, groups_table_of_run, groups_table_of_list};
 ghost use Rattle.buffers.specs.Put.{Put, Room};
@@ -9,6 +9,7 @@ ghost use Rattle.printed.specs.Table.{Sized};
 ghost use Rattle.groups_printed.specs.Table.{ListReady, TableReady};
 
 use crate::line::put_groups;
+use backbone::Buffers;
 use lines::line::{put_answer, put_refusal};
 use rules::{GroupsAnswer, RunAnswer, TABLE_BUDGET, TABLE_CHUNK};
 
@@ -34,14 +35,11 @@ fn put_run(
     entries: &[i32],
     sizes: &[u8],
     vars: u32,
-    status: &mut [u8],
-    calls: &mut [u32],
-    ways: &mut [u8],
-    hints: &mut [u32],
-    log: &mut [u32],
+    buffers: &mut Buffers,
 ) -> usize
-    requires { ListReady sizes.now vars entries.now out.old × Sized vars (buffers status.old calls.old ways.old hints.old log.old) }
-    ensures { Put 0 (groups_table_of_list sizes.now entries.now) out.old result out.new }
+    requires { ListReady sizes.now vars entries.now out.old × Sized vars (lent buffers.old) }
+    ensures put { Put 0 (groups_table_of_list sizes.now entries.now) out.old result out.new }
+    ensures same_reference { SameBuffers buffers.old buffers.new }
 {
     let none = [0i32; 1];
     let report = backbone::run(
@@ -50,13 +48,9 @@ fn put_run(
         &none[..0],
         TABLE_BUDGET,
         TABLE_CHUNK,
-        status,
-        calls,
-        ways,
-        hints,
-        log,
+        buffers,
     );
-    put_table(out, sizes, vars, report, status)
+    put_table(out, sizes, vars, report, buffers.status)
 }
 
 // The table of an expanded list: the buffers are made here, for up to 256 variables.
@@ -72,17 +66,14 @@ fn put_list(out: &mut [u8], entries: &[i32], sizes: &[u8], vars: u32) -> usize
     let mut ways = [0u8; rules::MAX_VARS as usize];
     let mut hints = [0u32; rules::MAX_VARS as usize];
     let mut log = [0u32; rules::MAX_LOG];
-    put_run(
-        out,
-        entries,
-        sizes,
-        vars,
-        &mut status[..n],
-        &mut calls[..n],
-        &mut ways[..n],
-        &mut hints[..n],
-        &mut log[..6 * (n + 1)],
-    )
+    let mut buffers = Buffers {
+        status: &mut status[..n],
+        calls: &mut calls[..n],
+        ways: &mut ways[..n],
+        hints: &mut hints[..n],
+        log: &mut log[..6 * (n + 1)],
+    };
+    put_run(out, entries, sizes, vars, &mut buffers)
 }
 
 // The table of a text: the line of its refusal, or the table of its expanded list.

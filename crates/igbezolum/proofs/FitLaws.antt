@@ -1,7 +1,7 @@
 -- From the promises of the crates below to those in numbers.
 --   refused_place, ended_place     the place of a run that is refused, and of one that is not
 --   reads_fit runs_fit sets_up_fit witnesses_fit   places and counts fit the fields of the structs
---   reads_in runs_in sets_up_in witnesses_in       what is returned in numbers, with the buffers as they were left
+--   reads_in runs_in runs_lent sets_up_in witnesses_in     what is returned in numbers, with the buffers as they were left
 -- Assumes nothing.
 use mathlib.Core.Path.{◌≡◌, refl, ◌∙◌, ap}
 use mathlib.Core.Logic.{◌⊎◌, inl, inr}
@@ -17,7 +17,7 @@ use Rattle.rules.specs.declared.RunAnswer.{RunAnswer}
 use Rattle.rules.specs.declared.Report.{Report}
 use Rattle.rules.specs.Numbers.{max_entries, refusal_place, run_place}
 use Rattle.texts.specs.Reading.{Judged, accepted, refused, judge, returned, reading_of, Reads}
-use Rattle.rules.specs.Answer.{Given, Buffers, refusal_of, task_of, report_if, report_of, Runs}
+use Rattle.rules.specs.Answer.{Given, Buffers, buffers, refusal_of, task_of, report_if, report_of, Runs}
 use Rattle.rules.specs.RunRefusals.{RunRefuses, bad_limits, short_buffer, list_long, not_ended, zero_over, entry_over_vars}
 use Rattle.rules.specs.RunRefusals.{many_held, bad_literal}
 use Rattle.rules.specs.Witness.{Asked, asked_task, asked_refusal, asked_report, Witnesses}
@@ -135,6 +135,20 @@ runs_in d e =
       ways_are = d.ways_are;
       hints_are = d.hints_are;
       log_is = d.log_is;
+    }
+
+-- the same of the buffers that were lent, where they hold what the run has left
+pub runs_lent : {g : Given} {r : Report} {left : Buffers} {n : IgbReport} {status calls ways hints log : List ℕ}
+    → Runs g r left → n ≡ report_numbers r → status ≡ left.status → calls ≡ left.calls → ways ≡ left.ways → hints ≡ left.hints → log ≡ left.log
+    → RunsIn g n (buffers status calls ways hints log)
+runs_lent d e s c w h l =
+    record {
+      result_is = e ∙ ap report_numbers d.result_is;
+      status_is = s ∙ d.status_is;
+      calls_are = c ∙ d.calls_are;
+      ways_are = w ∙ d.ways_are;
+      hints_are = h ∙ d.hints_are;
+      log_is = l ∙ d.log_is;
     }
 
 pub sets_up_in : {g : SetupGiven} {r : Report} {after : List ℕ} {n : IgbReport} → SetsUp g r after → n ≡ report_numbers r → SetsUpIn g n after

@@ -18,6 +18,7 @@ ghost use Rattle.texts.specs.Printed.{Prints};
 ghost use Rattle.rules.specs.Setup.{setup_given};
 ghost use Rattle.igbezolum.specs.Linked.{reading_numbers, report_numbers, ReadingFits, ReadsIn, RunsIn, SetsUpIn};
 
+use backbone::Buffers;
 use rules::numbers::Answer;
 
 // What a reading returns, in numbers.
@@ -100,17 +101,20 @@ pub fn igb_run(
         (buffers status.old calls.old ways.old hints.old log.old))
         result (buffers status.new calls.new ways.new hints.new log.new) }
 {
+    let mut buffers = Buffers {
+        status,
+        calls,
+        ways,
+        hints,
+        log,
+    };
     let report = backbone::run(
         entries,
         vars,
         held,
         budget,
         chunk_limit,
-        status,
-        calls,
-        ways,
-        hints,
-        log,
+        &mut buffers,
     );
     report_numbers(report)
 }

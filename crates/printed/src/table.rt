@@ -1,11 +1,13 @@
 // The table of a text (docs/RULES.md, "The printed table"): read, run, put.
 ghost use Rattle.std.specs.Prelude.{◌≡◌, length};
 ghost use Rattle.rules.specs.Numbers.{max_entries};
-ghost use Rattle.rules.specs.Answer.{given, buffers};
+ghost use Rattle.rules.specs.Answer.{given};
+ghost use Rattle.backbone.specs.Lent.{lent, SameBuffers};
 ghost use Rattle.texts.specs.Printed.{table_of, table_of_run, table_budget, table_chunk};
 ghost use Rattle.buffers.specs.Put.{Put, Room};
 ghost use Rattle.printed.specs.Table.{table_of_list, ListReady, Sized, TableReady, RunPut, TextPut};
 
+use backbone::Buffers;
 use lines::line::{put_answer, put_lines, put_refusal};
 use rules::{ReadAnswer, RunAnswer, TABLE_BUDGET, TABLE_CHUNK};
 
@@ -40,16 +42,12 @@ fn put_run(
     entries: &[i32],
     vars: u32,
     held: &[i32],
-    status: &mut [u8],
-    calls: &mut [u32],
-    ways: &mut [u8],
-    hints: &mut [u32],
-    log: &mut [u32],
+    buffers: &mut Buffers,
 ) -> usize
-    requires { ListReady vars entries.now held.now out.old × Sized vars (buffers status.old calls.old ways.old hints.old log.old) }
-    ensures { RunPut (given entries.now vars held.now table_budget table_chunk
-        (buffers status.old calls.old ways.old hints.old log.old)) out.old
-        result (buffers status.new calls.new ways.new hints.new log.new) out.new }
+    requires { ListReady vars entries.now held.now out.old × Sized vars (lent buffers.old) }
+    ensures put { RunPut (given entries.now vars held.now table_budget table_chunk (lent buffers.old)) out.old
+        result (lent buffers.new) out.new }
+    ensures same_reference { SameBuffers buffers.old buffers.new }
 {
     let report = backbone::run(
         entries,
@@ -57,13 +55,10 @@ fn put_run(
         held,
         TABLE_BUDGET,
         TABLE_CHUNK,
-        status,
-        calls,
-        ways,
-        hints,
-        log,
+        buffers,
     );
-    put_table(out, vars, report, status, hints)
+    // Lent as `&mut`: the borrow checker covers no two `&` through one `&mut`.
+    put_table(out, vars, report, &mut *buffers.status, &mut *buffers.hints)
 }
 
 // The table of an entry list: the buffers are made here, for up to 256 variables.
@@ -79,17 +74,14 @@ fn put_list(out: &mut [u8], entries: &[i32], vars: u32, held: &[i32]) -> usize
     let mut ways = [0u8; rules::MAX_VARS as usize];
     let mut hints = [0u32; rules::MAX_VARS as usize];
     let mut log = [0u32; rules::MAX_LOG];
-    put_run(
-        out,
-        entries,
-        vars,
-        held,
-        &mut status[..n],
-        &mut calls[..n],
-        &mut ways[..n],
-        &mut hints[..n],
-        &mut log[..6 * (n + 1)],
-    )
+    let mut buffers = Buffers {
+        status: &mut status[..n],
+        calls: &mut calls[..n],
+        ways: &mut ways[..n],
+        hints: &mut hints[..n],
+        log: &mut log[..6 * (n + 1)],
+    };
+    put_run(out, entries, vars, held, &mut buffers)
 }
 
 // The table of a text: the line of its refusal, or the table of its entries with the held literals.

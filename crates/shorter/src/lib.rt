@@ -2,15 +2,16 @@
 // text in a buffer that is lent.
 #![tactic(auto)]
 
-ghost use Rattle.std.specs.Prelude.{length};
+ghost use Rattle.std.specs.Prelude.{length, take, ◌≤◌};
 ghost use Rattle.rules.specs.Meaning.{clauses};
 ghost use Rattle.texts.specs.Plain.{plain};
-ghost use Rattle.rules.specs.Answer.{buffers};
 ghost use Rattle.rules.specs.RunRefusals.{Accepted};
 ghost use Rattle.texts.specs.Shorter.{folded, shorter_by, shorter_given, shorter_run, Shortens};
 ghost use Rattle.buffers.specs.Put.{Put};
+ghost use Rattle.backbone.specs.Lent.{lent, SameBuffers};
 ghost use Rattle.shorter.specs.Made.{SettledOver, RoomOver, ValuesPut, AnswerOver, Lent, RunPut};
 
+use backbone::Buffers;
 use folded::{put_empty, put_folded};
 use formula::starts::find_starts;
 use rules::{Report, RunAnswer, ShorterReport};
@@ -65,6 +66,17 @@ fn put_answer(text: &mut [u8], entries: &[i32], report: Report, status: &[u8]) -
     put_settled(text, entries, report.forced, status)
 }
 
+// The text of a run whose statuses stand at the front of a buffer.
+// Rules out: statuses behind those of the variables.
+// Required of: put_run, for the statuses that the run has left.
+fn put_front(text: &mut [u8], entries: &[i32], report: Report, status: &[u8], n: usize) -> usize
+    requires { (n ≤ length status.now) × AnswerOver entries.now report (take n status.now) text.old }
+    ensures { Put 0 (plain (length (take n status.now)) (shorter_by report.answer (take n status.now) (clauses entries.now)))
+        text.old result text.new }
+{
+    put_answer(text, entries, report, &status[..n])
+}
+
 // The run and its text, with buffers for any run.
 // Rules out: the text of another list; a run under another budget.
 // Required of: made, with the buffers.
@@ -74,15 +86,11 @@ fn put_run(
     budget: u32,
     chunk_limit: u32,
     text: &mut [u8],
-    status: &mut [u8],
-    calls: &mut [u32],
-    ways: &mut [u8],
-    hints: &mut [u32],
-    log: &mut [u32],
+    buffers: &mut Buffers,
 ) -> ShorterReport
-    requires { Lent (shorter_given entries.now vars budget chunk_limit text.old) (buffers status.old calls.old ways.old hints.old log.old) }
-    ensures { RunPut (shorter_given entries.now vars budget chunk_limit text.old) result
-        (buffers status.new calls.new ways.new hints.new log.new) text.new }
+    requires { Lent (shorter_given entries.now vars budget chunk_limit text.old) (lent buffers.old) }
+    ensures put { RunPut (shorter_given entries.now vars budget chunk_limit text.old) result (lent buffers.new) text.new }
+    ensures same_reference { SameBuffers buffers.old buffers.new }
 {
     let report = backbone::run(
         entries,
@@ -90,14 +98,10 @@ fn put_run(
         &entries[..0],
         budget,
         chunk_limit,
-        status,
-        calls,
-        ways,
-        hints,
-        log,
+        buffers,
     );
     let n = vars as usize;
-    let length = put_answer(text, entries, report, &status[..n]);
+    let length = put_front(text, entries, report, &mut *buffers.status, n);
     ShorterReport {
         run: report,
         length: length,
@@ -116,18 +120,14 @@ fn made(entries: &[i32], vars: u32, budget: u32, chunk_limit: u32, text: &mut [u
     let mut ways = [0u8; rules::MAX_VARS as usize];
     let mut hints = [0u32; rules::MAX_VARS as usize];
     let mut log = [0u32; rules::MAX_LOG];
-    put_run(
-        entries,
-        vars,
-        budget,
-        chunk_limit,
-        text,
-        &mut status,
-        &mut calls,
-        &mut ways,
-        &mut hints,
-        &mut log,
-    )
+    let mut buffers = Buffers {
+        status: &mut status,
+        calls: &mut calls,
+        ways: &mut ways,
+        hints: &mut hints,
+        log: &mut log,
+    };
+    put_run(entries, vars, budget, chunk_limit, text, &mut buffers)
 }
 
 // The shorter file of an entry list: the run's numbers, and the length of the text. Every list, buffer and limit is answered; what is

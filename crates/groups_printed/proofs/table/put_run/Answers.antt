@@ -5,8 +5,8 @@ use Rattle.groups_printed.proofs.table.put_run.Goals as goal
 
 pub put_table-requires : goal.put_table-requires
 put_table-requires c =
-    run_ready c.requires.0 c.requires.1 c.run-report.ensures
+    run_ready c.requires.0 c.requires.1 c.run-report.ensures.runs
 
-pub returns : goal.returns
-returns c =
-    put_same (run_table c.requires.0 c.requires.1 c.run-report.ensures) c.put_table.ensures
+pub returns-clause-put : goal.returns-clause-put
+returns-clause-put c =
+    put_same (run_table c.requires.0 c.requires.1 c.run-report.ensures.runs) c.put_table.ensures
