@@ -30,13 +30,7 @@ fn put_table(out: &mut [u8], sizes: &[u8], vars: u32, report: rules::Report, sta
 // The run of an expanded list, with buffers of just the size, budget 1,000,000 and chunk limit 16, and its table.
 // Rules out: the table under another budget; that under another chunk limit.
 // Required of: put_list, with buffers of just the size.
-fn put_run(
-    out: &mut [u8],
-    entries: &[i32],
-    sizes: &[u8],
-    vars: u32,
-    buffers: &mut Buffers,
-) -> usize
+fn put_run(out: &mut [u8], entries: &[i32], sizes: &[u8], vars: u32, buffers: &mut Buffers) -> usize
     requires { ListReady sizes.now vars entries.now out.old × Sized vars (lent buffers.old) }
     ensures put { Put 0 (groups_table_of_list sizes.now entries.now) out.old result out.new }
     ensures same_reference { SameBuffers buffers.old buffers.new }

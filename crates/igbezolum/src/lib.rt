@@ -108,14 +108,7 @@ pub fn igb_run(
         hints,
         log,
     };
-    let report = backbone::run(
-        entries,
-        vars,
-        held,
-        budget,
-        chunk_limit,
-        &mut buffers,
-    );
+    let report = backbone::run(entries, vars, held, budget, chunk_limit, &mut buffers);
     report_numbers(report)
 }
 

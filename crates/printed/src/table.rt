@@ -37,26 +37,13 @@ fn put_table(
 // The run of an entry list with literals held, with buffers of just the size, budget 1,000,000 and chunk limit 16, and its table.
 // Rules out: the table under another budget; that under another chunk limit.
 // Required of: put_list, with buffers of just the size.
-fn put_run(
-    out: &mut [u8],
-    entries: &[i32],
-    vars: u32,
-    held: &[i32],
-    buffers: &mut Buffers,
-) -> usize
+fn put_run(out: &mut [u8], entries: &[i32], vars: u32, held: &[i32], buffers: &mut Buffers) -> usize
     requires { ListReady vars entries.now held.now out.old × Sized vars (lent buffers.old) }
     ensures put { RunPut (given entries.now vars held.now table_budget table_chunk (lent buffers.old)) out.old
         result (lent buffers.new) out.new }
     ensures same_reference { SameBuffers buffers.old buffers.new }
 {
-    let report = backbone::run(
-        entries,
-        vars,
-        held,
-        TABLE_BUDGET,
-        TABLE_CHUNK,
-        buffers,
-    );
+    let report = backbone::run(entries, vars, held, TABLE_BUDGET, TABLE_CHUNK, buffers);
     // Lent as `&mut`: the borrow checker covers no two `&` through one `&mut`.
     put_table(out, vars, report, &mut *buffers.status, &mut *buffers.hints)
 }

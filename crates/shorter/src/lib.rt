@@ -92,14 +92,7 @@ fn put_run(
     ensures put { RunPut (shorter_given entries.now vars budget chunk_limit text.old) result (lent buffers.new) text.new }
     ensures same_reference { SameBuffers buffers.old buffers.new }
 {
-    let report = backbone::run(
-        entries,
-        vars,
-        &entries[..0],
-        budget,
-        chunk_limit,
-        buffers,
-    );
+    let report = backbone::run(entries, vars, &entries[..0], budget, chunk_limit, buffers);
     let n = vars as usize;
     let length = put_front(text, entries, report, &mut *buffers.status, n);
     ShorterReport {
