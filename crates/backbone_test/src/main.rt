@@ -172,12 +172,7 @@ fn show_lent<
     const WAYS: usize,
     const HINTS: usize,
     const LOG: usize,
->(
-    rt: &impl Print,
-    name: &[u8],
-    entries: &[i32],
-    limit: u32,
-) -> io::Result<()>
+>(rt: &impl Print, name: &[u8], entries: &[i32], limit: u32) -> io::Result<()>
     requires { (STATUS ≤ 25) × (CALLS ≤ 25) × (WAYS ≤ 25) × (HINTS ≤ 25) × (LOG ≤ 25) }
 {
     let none = [0i32; 0];
