@@ -7,7 +7,7 @@ ghost use Rattle.board.specs.Trails.{UndoAsked};
 ghost use Rattle.search.specs.Boards.{TakenBack, goes_again, GoOver, WentOn, TryBegins, Tried};
 
 use crate::meter::Meter;
-use crate::values::lowest_from;
+use crate::values::lowest_on;
 use board::close::{Closing, close};
 use board::literal::{literal_of, set_literal};
 use board::parts::{Board, Index};
@@ -54,7 +54,7 @@ fn goes_again(outcome: Outcome, value: bool) -> bool
 // Going on: close; on a clash there is no model here; if all variables are set, this is the model; otherwise take the lowest unset
 // variable, below which and so below `from` all are set, and try it false, then, if that finds nothing, true.
 // Rules out: the model with true before false; stopped as none.
-// Required of: whole::call_in, for the board that shows the values at the start; try_value, which requires it too.
+// Required of: whole::call_over, for the board that shows the values at the start; try_value, which requires it too.
 #[cycle(go_on_try_value)]
 pub fn go_on(
     view: &View,
@@ -80,7 +80,7 @@ pub fn go_on(
             meter,
         };
     }
-    let Some(v) = lowest_from(board, from) else {
+    let Some(v) = lowest_on(board, from) else {
         return CallEnd {
             outcome: Outcome::Model,
             meter,
