@@ -15,6 +15,18 @@ pub struct Chains<'a> {
     pub owners: &'a mut [u16],
 }
 
+impl<'a> Chains<'a> {
+    // Writes all chains out, one behind the other, and where each starts, with one more for the end.
+    // Rules out: a part that overlaps the next; no end for the last one.
+    // Required of: build_index, where no more is linked than there are entries.
+    pub fn put_all(&self, starts: &mut [u16], holders: &mut [u16], codes: usize)
+        requires { PutAllAsked codes self.now.heads.now self.now.nexts.now self.now.owners.now starts.old holders.old }
+        ensures { AllPut codes self.now.heads.now self.now.nexts.now self.now.owners.now starts.new holders.new }
+    {
+        put_all(self.heads, self.nexts, self.owners, starts, holders, codes);
+    }
+}
+
 // Puts clause c in front of the chain of literal k as cell m, unless it is there already, and returns the number of cells.
 // Rules out: a clause twice in a chain; a cell that is counted and not linked.
 // Required of: link_all, with a cell left for each entry.
@@ -61,9 +73,15 @@ pub fn link_all(entries: &[i32], chains: &mut Chains, vars: usize, count: usize)
 // Writes the owners along a chain from `at` on, and returns the index behind the last one.
 // Rules out: the chain's last owner left out; the owners from the last to the first.
 // Required of: put_all, with room for the chain.
-pub fn put_chain(chains: &Chains, holders: &mut [u16], head: usize, at: usize) -> usize
-    requires { PutAsked chains.now.owners.now chains.now.nexts.now head at holders.old }
-    ensures { (is : List ℕ) → Chain chains.now.owners.now chains.now.nexts.now head is → ChainPut is at holders.old result
+pub fn put_chain(
+    owners: &[u16],
+    nexts: &[u16],
+    holders: &mut [u16],
+    head: usize,
+    at: usize,
+) -> usize
+    requires { PutAsked owners.now nexts.now head at holders.old }
+    ensures { (is : List ℕ) → Chain owners.now nexts.now head is → ChainPut is at holders.old result
         holders.new }
 {
     let mut h = head;
@@ -71,8 +89,8 @@ pub fn put_chain(chains: &Chains, holders: &mut [u16], head: usize, at: usize) -
     // Stays a `while`: each cell says which one is next.
     while 0 < h {
         let j = h - 1;
-        holders[k] = chains.owners[j];
-        h = chains.nexts[j] as usize;
+        holders[k] = owners[j];
+        h = nexts[j] as usize;
         k += 1;
     }
     k
@@ -80,15 +98,22 @@ pub fn put_chain(chains: &Chains, holders: &mut [u16], head: usize, at: usize) -
 
 // Writes all chains out, one behind the other, and where each starts, with one more for the end.
 // Rules out: a part that overlaps the next; no end for the last one.
-// Required of: build_index, where no more is linked than there are entries.
-pub fn put_all(chains: &Chains, starts: &mut [u16], holders: &mut [u16], codes: usize)
-    requires { PutAllAsked codes chains.now.heads.now chains.now.nexts.now chains.now.owners.now starts.old holders.old }
-    ensures { AllPut codes chains.now.heads.now chains.now.nexts.now chains.now.owners.now starts.new holders.new }
+// Required of: Chains::put_all, which requires it too.
+pub fn put_all(
+    heads: &[u16],
+    nexts: &[u16],
+    owners: &[u16],
+    starts: &mut [u16],
+    holders: &mut [u16],
+    codes: usize,
+)
+    requires { PutAllAsked codes heads.now nexts.now owners.now starts.old holders.old }
+    ensures { AllPut codes heads.now nexts.now owners.now starts.new holders.new }
 {
     starts[0] = 0;
     let mut at = 0;
     for k in 0..codes {
-        at = put_chain(chains, holders, chains.heads[k] as usize, at);
+        at = put_chain(owners, nexts, holders, heads[k] as usize, at);
         starts[k + 1] = at as u16;
     }
 }
@@ -109,5 +134,5 @@ pub fn build_index(
     ensures same { SameChains chains.old chains.new }
 {
     link_all(entries, chains, vars, count);
-    put_all(chains, starts, holders, 2 * vars);
+    chains.put_all(starts, holders, 2 * vars);
 }

@@ -34,31 +34,58 @@ fn mark(values: &[u8], marks: &mut [u8], l: Lit, key: u32) -> u32
 
 // Marks each literal of the constraint, and returns its key. No literal is marked before.
 // Rules out: the first literal without a mark; the key of another constraint.
-// Required of: renew, which clears the marks.
-fn mark_all(constraint: &[i32], board: &Board, marks: &mut [u8]) -> u32
-    requires { MarksAsked constraint.now board.now.values.now marks.old }
-    ensures { MarksDone constraint.now board.now.values.now result marks.new }
+// Required of: renew, which clears the marks, and Board::mark_all, which requires it too.
+fn mark_all(constraint: &[i32], values: &[u8], marks: &mut [u8]) -> u32
+    requires { MarksAsked constraint.now values.now marks.old }
+    ensures { MarksDone constraint.now values.now result marks.new }
 {
     let mut key = 0;
     for i in (0..constraint.len()).rev() {
-        key = mark(board.values, marks, Lit(constraint[i]), key);
+        key = mark(values, marks, Lit(constraint[i]), key);
     }
     key
 }
 
 // Puts a new constraint in the place of the old one.
 // Rules out: the marks of the old one left; its key left.
-// Required of: whoever makes a call with a constraint over the variables.
-pub fn renew(constraint: &[i32], marks: &mut [u8], board: &mut Board)
-    requires { RenewAsked constraint.now marks.old board.old.values.now board.old.keys.now board.old.hot.now }
-    ensures done { Renewed constraint.now marks.old board.old.values.now board.old.keys.now board.old.hot.now
-        marks.new board.new.keys.now board.new.hot.now }
-    ensures values { board.new.values.now ≡ board.old.values.now }
-    ensures trail { board.new.trail.now ≡ board.old.trail.now }
-    ensures same { SameRoom board.old board.new }
+// Required of: whoever has the parts of a board that a new constraint changes.
+pub fn renew(constraint: &[i32], marks: &mut [u8], values: &[u8], keys: &mut [u32], hot: &mut [u16])
+    requires { RenewAsked constraint.now marks.old values.now keys.old hot.old }
+    ensures { Renewed constraint.now marks.old values.now keys.old hot.old
+        marks.new keys.new hot.new }
 {
     marks.fill(0);
-    let key = mark_all(constraint, board, marks);
-    let last = board.keys.len() - 1;
-    put_key(board.keys, board.hot, last, key);
+    let key = mark_all(constraint, values, marks);
+    let last = keys.len() - 1;
+    put_key(keys, hot, last, key);
+}
+
+impl<'a> Board<'a> {
+    // The marks of a constraint and its key, by the values that the board shows.
+    // Rules out: the first literal without a mark; the key of another constraint.
+    // Required of: renew, which clears the marks.
+    fn mark_all(&self, constraint: &[i32], marks: &mut [u8]) -> u32
+        requires { MarksAsked constraint.now self.now.values.now marks.old }
+        ensures { MarksDone constraint.now self.now.values.now result marks.new }
+    {
+        mark_all(constraint, self.values, marks)
+    }
+
+    // A new constraint on the board. What `renew` does is written out: a call of it lends the values while the keys are lent, and the borrow
+    // checker does not cover that of fields behind one reference.
+    // Rules out: the marks of the old one left; its key left; a value changed.
+    // Required of: whoever makes a call with a constraint over the variables.
+    pub fn renew(&mut self, constraint: &[i32], marks: &mut [u8])
+        requires { RenewAsked constraint.now marks.old self.old.values.now self.old.keys.now self.old.hot.now }
+        ensures done { Renewed constraint.now marks.old self.old.values.now self.old.keys.now self.old.hot.now
+            marks.new self.new.keys.now self.new.hot.now }
+        ensures values { self.new.values.now ≡ self.old.values.now }
+        ensures trail { self.new.trail.now ≡ self.old.trail.now }
+        ensures same { SameRoom self.old self.new }
+    {
+        marks.fill(0);
+        let key = self.mark_all(constraint, marks);
+        let last = self.keys.len() - 1;
+        put_key(self.keys, self.hot, last, key);
+    }
 }

@@ -2,17 +2,13 @@
 ghost use Rattle.std.specs.Prelude.{◌≤◌, length};
 ghost use Rattle.board.specs.Blocks.{HotBlocks, NextHot};
 
-use crate::parts::Board;
-
 // The index of the first hot clause from `from` on, or the number of clauses where there is none. A block with none is passed at once.
 // Rules out: a unit passed by; a hot clause before `from`.
-// Required of: round::round, from its cursor.
-pub fn next_hot(board: &Board, from: usize) -> usize
-    requires { (from ≤ length board.now.keys.now) × HotBlocks board.now.keys.now board.now.hot.now }
-    ensures { NextHot board.now.keys.now from result }
+// Required of: parts::Board::next_hot, which requires it too.
+pub fn next_hot(keys: &[u32], hot: &[u16], from: usize) -> usize
+    requires { (from ≤ length keys.now) × HotBlocks keys.now hot.now }
+    ensures { NextHot keys.now from result }
 {
-    let keys = &*board.keys;
-    let hot = &*board.hot;
     let mut i = from;
     // Stays a `while`: a block with no hot clause is passed at once.
     while i < keys.len() {

@@ -8,7 +8,7 @@ use crate::parts::Index;
 
 // Gives a clause a new key.
 // Rules out: a hot clause that its block does not count; a block that counts a clause twice.
-// Required of: change_all, for the clauses of a list; change_at and constraint::renew, for the constraint.
+// Required of: change_all, for the clauses of a list; change_at, constraint::renew and Board::renew, for the constraint.
 pub fn put_key(keys: &mut [u32], hot: &mut [u16], i: usize, key: u32)
     requires { (i < length keys.old) × HotBlocks keys.old hot.old }
     ensures { (keys.new ≡ set keys.old i key) × HotBlocks keys.new hot.new }

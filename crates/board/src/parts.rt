@@ -1,7 +1,9 @@
 // What a board is made of.
-ghost use Rattle.std.specs.Prelude.{◌≡◌, length};
+ghost use Rattle.std.specs.Prelude.{◌≡◌, ◌≤◌, length};
 ghost use Rattle.formula.specs.Clauses.{ClauseUpTo, first_unset};
+ghost use Rattle.board.specs.Blocks.{HotBlocks, NextHot};
 
+use crate::hot::next_hot;
 use formula::unset::first_unset;
 use rules::Lit;
 
@@ -25,6 +27,16 @@ pub struct Board<'a> {
 }
 
 impl<'a> Board<'a> {
+    // The index of the first hot clause from `from` on, or the number of clauses where there is none.
+    // Rules out: a unit passed by; a hot clause before `from`.
+    // Required of: round::round, from its cursor.
+    pub fn next_hot(&self, from: usize) -> usize
+        requires { (from ≤ length self.now.keys.now) × HotBlocks self.now.keys.now self.now.hot.now }
+        ensures { NextHot self.now.keys.now from result }
+    {
+        next_hot(self.keys, self.hot, from)
+    }
+
     // The first unset literal of a clause, by the values that the board shows.
     // Rules out: a literal that is set; nothing where only the last literal is unset.
     // Required of: round::round, for a hot clause.

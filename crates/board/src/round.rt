@@ -3,7 +3,6 @@
 ghost use Rattle.board.specs.Boards.{SameRoom};
 ghost use Rattle.board.specs.Closings.{BoardOver, RoundDone};
 
-use crate::hot::next_hot;
 use crate::literal::set_literal;
 use crate::parts::{Board, Index};
 use formula::view::View;
@@ -25,7 +24,7 @@ pub fn round(view: &View, index: &Index, board: &mut Board, total: usize) -> Opt
     let mut n = 0;
     // Stays a `while`: next_hot says how far to go on.
     while n < total {
-        let at = next_hot(board, n);
+        let at = board.next_hot(n);
         if total <= at {
             return Some(set);
         }

@@ -7,7 +7,7 @@ ghost use Rattle.board.specs.Trails.{UndoAsked};
 ghost use Rattle.search.specs.Boards.{TakenBack, goes_again, GoOver, WentOn, TryBegins, Tried};
 
 use crate::meter::Meter;
-use crate::values::lowest_from;
+use crate::values::lowest_on;
 use board::close::{Closing, close};
 use board::literal::{literal_of, set_literal};
 use board::parts::{Board, Index};
@@ -80,7 +80,7 @@ pub fn go_on(
             meter,
         };
     }
-    let Some(v) = lowest_from(board, from) else {
+    let Some(v) = lowest_on(board, from) else {
         return CallEnd {
             outcome: Outcome::Model,
             meter,

@@ -12,7 +12,6 @@ use crate::call::{CallEnd, go_on};
 use crate::meter::Meter;
 use crate::room::{MAX_BLOCKS, MAX_CODES, MAX_PARTS, MAX_TRAIL, Room, begin_in};
 use board::close::{Closing, close};
-use board::constraint::renew;
 use board::parts::{Board, Index};
 use board::show::show;
 use board::trail::undo;
@@ -45,7 +44,7 @@ fn call_over(
     };
     undo(&index, shown, 0);
     show(values, &index, shown);
-    renew(view.constraint, marks, shown);
+    shown.renew(view.constraint, marks);
     let index = Index {
         lists,
         holders,

@@ -3,4 +3,4 @@ use Rattle.board.proofs.FillLaws.{Filling}
 use Rattle.board.proofs.chain.put_all.Given as goal
 
 abbrev pub invariant-loop-k : goal.invariant-loop-k
-invariant-loop-k l = Filling l.codes l.chains.heads.now l.chains.nexts.now l.chains.owners.now l.initial.starts l.initial.holders l.at l.k l.starts l.holders
+invariant-loop-k l = Filling l.codes l.heads l.nexts l.owners l.initial.starts l.initial.holders l.at l.k l.starts l.holders

@@ -4,7 +4,7 @@ use Rattle.board.proofs.PutLaws.{Putting}
 use Rattle.board.proofs.chain.put_chain.Given as goal
 
 abbrev pub invariant-loop-h : goal.invariant-loop-h
-invariant-loop-h l = Putting l.chains.owners.now l.chains.nexts.now l.head l.at l.initial.holders l.h l.k l.holders
+invariant-loop-h l = Putting l.owners l.nexts l.head l.at l.initial.holders l.h l.k l.holders
 
 abbrev pub decreases-loop-h : goal.decreases-loop-h
 decreases-loop-h l = l.h

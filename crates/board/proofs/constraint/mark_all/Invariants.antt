@@ -4,4 +4,4 @@ use Rattle.board.proofs.ConstraintLaws.{Marking}
 use Rattle.board.proofs.constraint.mark_all.Given as goal
 
 abbrev pub invariant-loop-i : goal.invariant-loop-i
-invariant-loop-i l = Marking l.constraint l.board.values.now l.initial.marks l.key l.i l.marks
+invariant-loop-i l = Marking l.constraint l.values l.initial.marks l.key l.i l.marks

@@ -2,6 +2,6 @@
 use Rattle.board.proofs.ConstraintLaws.{renewed}
 use Rattle.board.proofs.constraint.renew.Goals as goal
 
-pub returns-clause-done : goal.returns-clause-done
-returns-clause-done c =
+pub returns : goal.returns
+returns c =
     renewed c.requires c.mark_all-key.ensures c.put_key.ensures.0 c.put_key.ensures.1

@@ -20,16 +20,16 @@ go_on-returns-in-Clash t c =
       same = same_then c.close.ensures.same c.take_back.ensures.same;
     }
 
-pub go_on-lowest_from-requires : goal.go_on-lowest_from-requires
-go_on-lowest_from-requires t c =
+pub go_on-lowest_on-requires : goal.go_on-lowest_on-requires
+go_on-lowest_on-requires t c =
     (closed_few c.args.meter c.requires c.close.ensures.done c.in_default.is, closed_below c.args.meter c.requires c.close.ensures.done c.in_default.is)
 
-pub go_on-returns-in_default-lowest_from : goal.go_on-returns-in_default-lowest_from
-go_on-returns-in_default-lowest_from t c =
+pub go_on-returns-in_default-lowest_on : goal.go_on-returns-in_default-lowest_on
+go_on-returns-in_default-lowest_on t c =
     record {
       done =
           went_model c.args.meter c.requires c.close.ensures.done c.in_default.is
-          (choice_none c.close.new.board.values.now (sym c.lowest_from.ensures ∙ c.in_default-lowest_from.is));
+          (choice_none c.close.new.board.values.now (sym c.lowest_on.ensures ∙ c.in_default-lowest_on.is));
       same = c.close.ensures.same;
     }
 
@@ -39,16 +39,16 @@ go_on-try_value-end-requires t c = (
     arith,
     c.decreases,
     turn_falls c.args.meter c.requires c.close.ensures.done c.in_default.is c.in-Some.v
-        (sym c.lowest_from.ensures ∙ c.in-Some.is) c.loop-value.invariant.0,
+        (sym c.lowest_on.ensures ∙ c.in-Some.is) c.loop-value.invariant.0,
   ),
   turn_begins c.args.meter c.requires c.close.ensures.done c.in_default.is c.in-Some.v
-      (sym c.lowest_from.ensures ∙ c.in-Some.is) c.loop-value.invariant.0,
+      (sym c.lowest_on.ensures ∙ c.in-Some.is) c.loop-value.invariant.0,
 )
 
 pub go_on-loop-value-preserved : goal.go_on-loop-value-preserved
 go_on-loop-value-preserved t c = (
   turn_again c.args.meter c.requires c.close.ensures.done c.in_default.is c.in-Some.v
-      (sym c.lowest_from.ensures ∙ c.in-Some.is) c.loop-value.invariant.0 c.try_value-end.ensures.done
+      (sym c.lowest_on.ensures ∙ c.in-Some.is) c.loop-value.invariant.0 c.try_value-end.ensures.done
       (sym c.goes_again.ensures ∙ c.if-goes_again.true),
   same_then c.loop-value.invariant.1 c.try_value-end.ensures.same,
 )
@@ -56,14 +56,14 @@ go_on-loop-value-preserved t c = (
 pub go_on-take_back-requires-else-goes_again : goal.go_on-take_back-requires-else-goes_again
 go_on-take_back-requires-else-goes_again t c =
     turn_asks c.args.meter c.requires c.close.ensures.done c.in_default.is c.in-Some.v
-    (sym c.lowest_from.ensures ∙ c.in-Some.is) c.loop-value.invariant.0 c.try_value-end.ensures.done
+    (sym c.lowest_on.ensures ∙ c.in-Some.is) c.loop-value.invariant.0 c.try_value-end.ensures.done
 
 pub go_on-returns-else-goes_again : goal.go_on-returns-else-goes_again
 go_on-returns-else-goes_again t c =
     record {
       done =
           turn_went c.args.meter c.requires c.close.ensures.done c.in_default.is c.in-Some.v
-          (sym c.lowest_from.ensures ∙ c.in-Some.is) c.loop-value.invariant.0 c.try_value-end.ensures.done
+          (sym c.lowest_on.ensures ∙ c.in-Some.is) c.loop-value.invariant.0 c.try_value-end.ensures.done
           (sym c.goes_again.ensures ∙ c.if-goes_again.false) c.take_back-else-goes_again.ensures.done;
       same =
           same_then c.close.ensures.same
