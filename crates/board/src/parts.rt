@@ -26,6 +26,16 @@ pub struct Board<'a> {
     pub trail: &'a mut [u16],
 }
 
+// Copies values between slices that nothing else holds: of the values in a board the machine's code would not know it.
+// Rules out: the last value left out; values kept that stood there.
+// Required of: Board::copy_values, which requires it too.
+fn copy(from: &[u8], to: &mut [u8])
+    requires { length to.old ≡ length from.now }
+    ensures { to.new ≡ from.now }
+{
+    to.copy_from_slice(from);
+}
+
 impl<'a> Board<'a> {
     // The index of the first hot clause from `from` on, or the number of clauses where there is none.
     // Rules out: a unit passed by; a hot clause before `from`.
@@ -54,6 +64,6 @@ impl<'a> Board<'a> {
         requires { length to.old ≡ length self.now.values.now }
         ensures { to.new ≡ self.now.values.now }
     {
-        to.copy_from_slice(self.values);
+        copy(self.values, to);
     }
 }
