@@ -26,14 +26,17 @@ pub struct Board<'a> {
     pub trail: &'a mut [u16],
 }
 
-// Copies values between slices that nothing else holds: of the values in a board the machine's code would not know it.
+// Copies values, one by one: what C links asks for `memcpy` and `memset` alone (igbezolum.h), and `copy_from_slice` of what stands in a board
+// asks for `memmove`.
 // Rules out: the last value left out; values kept that stood there.
 // Required of: Board::copy_values, which requires it too.
 fn copy(from: &[u8], to: &mut [u8])
     requires { length to.old ≡ length from.now }
     ensures { to.new ≡ from.now }
 {
-    to.copy_from_slice(from);
+    for (i, value) in to.iter_mut().enumerate() {
+        *value = from[i];
+    }
 }
 
 impl<'a> Board<'a> {
