@@ -34,7 +34,7 @@ fn mark(values: &[u8], marks: &mut [u8], l: Lit, key: u32) -> u32
 
 // Marks each literal of the constraint, and returns its key. No literal is marked before.
 // Rules out: the first literal without a mark; the key of another constraint.
-// Required of: renew, which clears the marks, and Board::mark_all, which requires it too.
+// Required of: renew, which clears the marks.
 fn mark_all(constraint: &[i32], values: &[u8], marks: &mut [u8]) -> u32
     requires { MarksAsked constraint.now values.now marks.old }
     ensures { MarksDone constraint.now values.now result marks.new }
@@ -48,7 +48,7 @@ fn mark_all(constraint: &[i32], values: &[u8], marks: &mut [u8]) -> u32
 
 // Puts a new constraint in the place of the old one.
 // Rules out: the marks of the old one left; its key left.
-// Required of: whoever has the parts of a board that a new constraint changes.
+// Required of: Board::renew, which requires it too.
 pub fn renew(constraint: &[i32], marks: &mut [u8], values: &[u8], keys: &mut [u32], hot: &mut [u16])
     requires { RenewAsked constraint.now marks.old values.now keys.old hot.old }
     ensures { Renewed constraint.now marks.old values.now keys.old hot.old
@@ -61,18 +61,7 @@ pub fn renew(constraint: &[i32], marks: &mut [u8], values: &[u8], keys: &mut [u3
 }
 
 impl<'a> Board<'a> {
-    // The marks of a constraint and its key, by the values that the board shows.
-    // Rules out: the first literal without a mark; the key of another constraint.
-    // Required of: renew, which clears the marks.
-    fn mark_all(&self, constraint: &[i32], marks: &mut [u8]) -> u32
-        requires { MarksAsked constraint.now self.now.values.now marks.old }
-        ensures { MarksDone constraint.now self.now.values.now result marks.new }
-    {
-        mark_all(constraint, self.values, marks)
-    }
-
-    // A new constraint on the board. What `renew` does is written out: a call of it lends the values while the keys are lent, and the borrow
-    // checker does not cover that of fields behind one reference.
+    // A new constraint on the board. The values are lent as `&mut` too: the borrow checker covers no `&` beside a `&mut` through one reference.
     // Rules out: the marks of the old one left; its key left; a value changed.
     // Required of: whoever makes a call with a constraint over the variables.
     pub fn renew(&mut self, constraint: &[i32], marks: &mut [u8])
@@ -83,9 +72,12 @@ impl<'a> Board<'a> {
         ensures trail { self.new.trail.now ≡ self.old.trail.now }
         ensures same { SameRoom self.old self.new }
     {
-        marks.fill(0);
-        let key = self.mark_all(constraint, marks);
-        let last = self.keys.len() - 1;
-        put_key(self.keys, self.hot, last, key);
+        renew(
+            constraint,
+            marks,
+            &mut *self.values,
+            &mut *self.keys,
+            &mut *self.hot,
+        );
     }
 }

@@ -1,5 +1,5 @@
-// One meter of tries serves the whole run, docs/RULES.md, "Budget". A try is charged to a meter that is lent, or
-// the meter behind it is asked for.
+// One meter of tries serves the whole run, docs/RULES.md, "Budget". A try is charged to a meter that is lent; the meter behind it is
+// asked for by value.
 ghost use Rattle.std.specs.Prelude.{◌≡◌};
 ghost use Rattle.search.specs.Meters.{asked_of, after_try};
 
@@ -11,28 +11,27 @@ pub struct Meter {
 }
 
 impl Meter {
-    // A try, which is given unless the budget is spent: the meter behind it.
+    // A try, which is given unless the budget is spent: the meter behind it, which is a copy that has been charged.
     // Rules out: a try at the budget; a try that is not counted; the budget counted down.
     pub fn ask_try(self) -> Option<Meter>
         ensures { result ≡ asked_of self }
     {
-        if self.spent < self.budget {
-            Some(Meter {
-                spent: self.spent + 1,
-                ..self
-            })
+        let mut after = self;
+        after.charge();
+        if self.spent < after.spent {
+            Some(after)
         } else {
             None
         }
     }
 
-    // Charges the meter with a try.
+    // Charges the meter with a try, unless the budget is spent.
     // Rules out: a copy that is charged; two tries for one; a meter spent over the budget.
     pub fn charge(&mut self)
         ensures { self.new ≡ after_try self.old }
     {
-        if let Some(after) = self.ask_try() {
-            *self = after;
+        if self.spent < self.budget {
+            self.spent += 1;
         }
     }
 }
