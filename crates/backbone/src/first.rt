@@ -61,6 +61,7 @@ fn first_in<'a>(
     let total = (starts.len() - 1) as u32;
     let view = View {
         entries,
+        vars: values.len(),
         starts,
         constraint: &[],
     };

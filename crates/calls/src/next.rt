@@ -73,6 +73,7 @@ fn chunk_in<'a>(
     let total = starts.len() as u32;
     let view = View {
         entries,
+        vars: values.len(),
         starts,
         constraint: &literals[..n],
     };

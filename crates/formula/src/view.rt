@@ -1,14 +1,16 @@
-// The formula and the constraint as clauses 1, 2, 3 and so on, docs/RULES.md, "Meaning".
+// The formula and the constraint as clauses 1, 2, 3 and so on, docs/RULES.md, "Meaning": a view holds the entry list and the number of
+// variables V, and by what a clause is found.
 ghost use Rattle.std.specs.Prelude.{◌≡◌};
 ghost use Rattle.formula.specs.Starts.{Lookup, clause_at};
 
 use crate::clause::clause_at;
 use rules::ClauseNo;
 
-// The entry list, where its clauses start, and the constraint.
+// The entry list and the number of variables; where the clauses start, and the constraint.
 #[derive(Clone, Copy)]
 pub struct View<'a> {
     pub entries: &'a [i32],
+    pub vars: usize,
     pub starts: &'a [u16],
     pub constraint: &'a [i32],
 }

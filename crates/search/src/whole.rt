@@ -116,6 +116,7 @@ pub fn whole_call<'a>(
     );
     let view = View {
         entries,
+        vars,
         starts,
         constraint,
     };
@@ -175,6 +176,7 @@ pub fn whole_close<'a>(entries: &'a [i32], starts: &'a [u16], values: &mut [u8])
     };
     let view = View {
         entries,
+        vars,
         starts,
         constraint: &[],
     };
