@@ -6,7 +6,7 @@ use rules::ClauseNo;
 
 // Clause n, from 1: the part of the entry list from its start to the zero that ends it; after the last one the constraint.
 // Rules out: a clause without its last literal; the constraint for the formula's last clause.
-// Required of: view::View::clause and first_false, for a number from 1 to that of the constraint.
+// Required of: view::View::clause, which requires it too, and whoever has a clause's number and no view.
 pub fn clause_at<'a>(
     entries: &'a [i32],
     starts: &[u16],

@@ -18,7 +18,7 @@ pub struct View<'a> {
 impl<'a> View<'a> {
     // Clause n, from 1; after the last one the constraint.
     // Rules out: the formula's last clause for the constraint; the first clause for every n.
-    // Required of: board::round::round, which counts from 1 to the last clause.
+    // Required of: board::round::round and first_false, which count from 1 to the last clause.
     pub fn clause(self, n: ClauseNo) -> &'a [i32]
         requires { Lookup self.entries.now self.starts.now n.0 }
         ensures { result.now ≡ clause_at self.entry.entries.now self.entry.constraint.now n.0 }

@@ -12,7 +12,7 @@ pub has_true-requires : goal.has_true-requires
 has_true-requires c =
     let number : Numbered (length c.args.values.now) c.args.entries.now c.loop-k.k =
     numbered c.requires c.loop-k.k (omega arith) c.loop-k-test.true in
-    rw c.clause_at.ensures number.up_to
+    rw c.clause.ensures number.up_to
 
 pub returns-then-not-has_true : goal.returns-then-not-has_true
 returns-then-not-has_true c =
@@ -20,14 +20,14 @@ returns-then-not-has_true c =
     numbered c.requires c.loop-k.k (omega arith) c.loop-k-test.true in
     ap first_false_of
     (looked_found c.loop-k.k (omega arith) c.loop-k.invariant number.within
-    (ap (has_true c.args.values.now) (number.is ∙ sym c.clause_at.ensures) ∙ sym c.has_true.ensures ∙ c.if-not-has_true.true))
+    (ap (has_true c.args.values.now) (number.is ∙ sym c.clause.ensures) ∙ sym c.has_true.ensures ∙ c.if-not-has_true.true))
 
 pub loop-k-preserved : goal.loop-k-preserved
 loop-k-preserved c =
     let number : Numbered (length c.args.values.now) c.args.entries.now c.loop-k.k =
     numbered c.requires c.loop-k.k (omega arith) c.loop-k-test.true in
     looked_next c.loop-k.k (omega arith) c.loop-k.invariant number.within
-    (ap (has_true c.args.values.now) (number.is ∙ sym c.clause_at.ensures) ∙ sym c.has_true.ensures ∙ c.if-not-has_true.false)
+    (ap (has_true c.args.values.now) (number.is ∙ sym c.clause.ensures) ∙ sym c.has_true.ensures ∙ c.if-not-has_true.false)
 
 pub returns : goal.returns
 returns c =
